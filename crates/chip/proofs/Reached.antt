@@ -1,0 +1,32 @@
+-- A port access, once it is known whether the ports are open and where the port leads: what the proofs of `read` and `write`
+-- cite for each of their cases.
+use Prim.Native.Nat.{ℕ}
+use mathlib.Core.Bool.{Bool, true, false, cond, not}
+use mathlib.Core.Path.{_≡_, refl, sym, ap, _∙_}
+use borrow.Author.Tests.{not-true, not-false}
+use Rattle.ports.specs.Ports.{target}
+use Rattle.ports.specs.declared.Target.{Target}
+use Rattle.chip.specs.State.{named}
+use Rattle.chip.specs.Names.{portsOpen, colour}
+use Rattle.chip.specs.Access.{portWritten, portRead, writeTo, readFrom, wrote, seen}
+use Rattle.chip.specs.declared.Chip.{Chip}
+use Rattle.chip.specs.declared.access.Answer.the-variants.{Closed}
+
+module _ (c : Chip) (p : ℕ) {answers : Bool} (is : answers ≡ portsOpen (named c)) where
+  module _ (shut : not answers ≡ true) where
+    pub closed-write : (v : ℕ) → wrote Closed c ≡ portWritten c p v
+    unfolding portWritten
+    closed-write v = rw (← is, not-true answers shut)
+
+    pub closed-read : seen Closed 0xFF c ≡ portRead c p
+    unfolding portRead
+    closed-read = rw (← is, not-true answers shut)
+
+  module _ (free : not answers ≡ false) {b : Bool} (picks : b ≡ colour (named c)) {found t : Target} where
+    pub reached-write : found ≡ target b true p → found ≡ t → (v : ℕ) → writeTo t c v ≡ portWritten c p v
+    unfolding portWritten
+    reached-write leads told v = rw (← is, not-false answers free, ← picks, ← leads, told)
+
+    pub reached-read : found ≡ target b false p → found ≡ t → readFrom t c ≡ portRead c p
+    unfolding portRead
+    reached-read leads told = rw (← is, not-false answers free, ← picks, ← leads, told)

@@ -1,0 +1,54 @@
+-- What a port write and a port read do. Document 01, "Ports" and "Numbers returned", 0 to 2: the ports are closed (2) before a
+-- port is not listed (1), and a refusal hands back the whole state unchanged.
+use Prim.Native.Nat.{ℕ}
+use mathlib.Core.Bool.{Bool, true, false, cond}
+use Rattle.ports.specs.Ports.{target}
+use Rattle.ports.specs.declared.Target.{Target}
+use Rattle.ports.specs.declared.Target.the-variants.{Index, Data, ReadIndex, WriteIndex, Paldata, NotPicked, NotListed}
+use Rattle.chip.specs.State.{named, join, withNamed, withIndexes, withLoading, indexOf, withIndex}
+use Rattle.chip.specs.Names.{register, received, portsOpen, colour}
+use Rattle.chip.specs.Palette.{aimed, held, moved, loaded, palstate, paldata}
+use Rattle.chip.specs.declared.Chip.{Chip}
+use Rattle.chip.specs.declared.access.Answer.{Answer}
+use Rattle.chip.specs.declared.access.Answer.the-variants.{Done, Unlisted, Closed}
+use Rattle.chip.specs.declared.access.Wrote.{Wrote}
+use Rattle.chip.specs.declared.access.Seen.{Seen}
+
+-- document 01's number of an answer
+abbrev pub numberOf : Answer → ℕ
+numberOf Done = 0
+numberOf Unlisted = 1
+numberOf Closed = 2
+
+abbrev pub wrote : Answer → Chip → Wrote
+wrote a c = record { answer = a; chip = c }
+
+abbrev pub seen : Answer → ℕ → Chip → Seen
+seen a v c = record { answer = a; value = v; chip = c }
+
+-- a byte is written where a port leads: a data port works on the register at the group's index
+abbrev pub writeTo : Target → Chip → ℕ → Wrote
+writeTo (Index g) c v = wrote Done (withIndexes c (withIndex g (c .indexes) v))
+writeTo (Data g) c v = wrote Done (withNamed c (received g (named c) (indexOf g (c .indexes)) v))
+writeTo ReadIndex c v = wrote Done (withLoading c (aimed (c .loading) v true))
+writeTo WriteIndex c v = wrote Done (withLoading c (aimed (c .loading) v false))
+writeTo Paldata c v = wrote Done (join (loaded (named c) (c .loading) v) (c .indexes) (moved (held (c .loading) v)))
+writeTo NotPicked c v = wrote Done c
+writeTo NotListed c v = wrote Unlisted c
+
+-- a byte is read from where a port leads
+abbrev pub readFrom : Target → Chip → Seen
+readFrom (Index g) c = seen Done (indexOf g (c .indexes)) c
+readFrom (Data g) c = seen Done (register g (named c) (indexOf g (c .indexes))) c
+readFrom ReadIndex c = seen Done (palstate (c .loading)) c
+readFrom WriteIndex c = seen Done (c .loading .index) c
+readFrom Paldata c = seen Done (paldata (named c) (c .loading)) (withLoading c (moved (c .loading)))
+readFrom NotPicked c = seen Done 0xFF c
+readFrom NotListed c = seen Unlisted 0xFF c
+
+-- a port write and a port read
+unfoldable pub portWritten : Chip → ℕ → ℕ → Wrote
+portWritten c p v = cond (portsOpen (named c)) (writeTo (target (colour (named c)) true p) c v) (wrote Closed c)
+
+unfoldable pub portRead : Chip → ℕ → Seen
+portRead c p = cond (portsOpen (named c)) (readFrom (target (colour (named c)) false p) c) (seen Closed 0xFF c)

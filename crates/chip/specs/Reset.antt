@@ -1,0 +1,44 @@
+-- The state after a reset, which lends two pin bytes. Document 01, "Registers" and "Palette": XR70 is the first pin byte with bit
+-- 0 made 1, XR71 is the second, XR08 bit 1 shows pin CFG1, which is XR70 bit 1; the indexes are 0, and so are the palette's
+-- entries, its index and the held bytes; the position is red, and the write index counts as written last.
+use Prim.Native.Nat.{ℕ, zero, suc}
+use mathlib.Core.Bool.{Bool, false, cond}
+use mathlib.Core.List.{List, [], _∷_, _++_}
+use lib.Dec.{eqb}
+use lib.ListN.{replicate}
+use lib.Bits.{bitAnd, bitOr}
+use Rattle.registers.specs.Groups.{is, resetOf}
+use Rattle.registers.specs.declared.Group.{Group}
+use Rattle.registers.specs.declared.Group.the-variants.{Cr, Sr, Gr, Xr, Fr, Mr, Msr, Palmask}
+use Rattle.chip.specs.Palette.{rgb}
+use Rattle.chip.specs.declared.Chip.{Chip}
+
+-- the byte that a reset leaves in a register
+unfoldable pub resetByte : ℕ → ℕ → Group → ℕ → ℕ
+resetByte first second g i =
+    cond (is g Xr)
+    (cond (eqb i 0x08) (bitAnd first 0x02)
+    (cond (eqb i 0x70) (bitOr first 0x01)
+    (cond (eqb i 0x71) second
+    (resetOf g i))))
+    (resetOf g i)
+
+-- the list of f at 0, 1, .. below n
+unfoldable pub filled : (ℕ → ℕ) → ℕ → List ℕ
+filled f zero = []
+filled f (suc n) = filled f n ++ (f n ∷ [])
+
+unfoldable pub reset : ℕ → ℕ → Chip
+reset first second = record {
+  cr = filled (resetByte first second Cr) 256;
+  sr = filled (resetByte first second Sr) 256;
+  gr = filled (resetByte first second Gr) 256;
+  xr = filled (resetByte first second Xr) 256;
+  fr = filled (resetByte first second Fr) 256;
+  mr = filled (resetByte first second Mr) 256;
+  msr = resetByte first second Msr 0x00;
+  palmask = resetByte first second Palmask 0x00;
+  palette = replicate 256 (rgb 0 0 0);
+  indexes = record { cr = 0; sr = 0; gr = 0; xr = 0; fr = 0; mr = 0 };
+  loading = record { index = 0; position = 0; red = 0; green = 0; reading = false };
+}

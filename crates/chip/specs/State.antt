@@ -1,0 +1,84 @@
+-- The state in two parts: what has a name (registers and colours), and the rest (the six indexes, the palette's loading
+-- state). Document 01, "Ports": the chip state. Every access is said as a change of one part or the other.
+use Prim.Native.Nat.{ℕ}
+use mathlib.Core.Bool.{cond}
+use mathlib.Core.List.{List}
+use Rattle.registers.specs.Groups.{is}
+use Rattle.registers.specs.declared.Group.{Group}
+use Rattle.registers.specs.declared.Group.the-variants.{Cr, Sr, Gr, Xr, Fr, Mr, Msr, Palmask}
+use Rattle.chip.specs.declared.Chip.{Chip}
+use Rattle.chip.specs.declared.Rgb.{Rgb}
+use Rattle.chip.specs.declared.Indexes.{Indexes}
+use Rattle.chip.specs.declared.Loading.{Loading}
+
+-- what has a name
+pub record Named : Type 0 where
+  pub cr : List ℕ
+  pub sr : List ℕ
+  pub gr : List ℕ
+  pub xr : List ℕ
+  pub fr : List ℕ
+  pub mr : List ℕ
+  pub msr : ℕ
+  pub palmask : ℕ
+  pub palette : List Rgb
+
+abbrev pub named : Chip → Named
+named c = record {
+  cr = c .cr;
+  sr = c .sr;
+  gr = c .gr;
+  xr = c .xr;
+  fr = c .fr;
+  mr = c .mr;
+  msr = c .msr;
+  palmask = c .palmask;
+  palette = c .palette;
+}
+
+-- a state from its parts
+abbrev pub join : Named → Indexes → Loading → Chip
+join n x l = record {
+  cr = n .cr;
+  sr = n .sr;
+  gr = n .gr;
+  xr = n .xr;
+  fr = n .fr;
+  mr = n .mr;
+  msr = n .msr;
+  palmask = n .palmask;
+  palette = n .palette;
+  indexes = x;
+  loading = l;
+}
+
+abbrev pub withNamed : Chip → Named → Chip
+withNamed c n = join n (c .indexes) (c .loading)
+
+abbrev pub withIndexes : Chip → Indexes → Chip
+withIndexes c x = join (named c) x (c .loading)
+
+abbrev pub withLoading : Chip → Loading → Chip
+withLoading c l = join (named c) (c .indexes) l
+
+-- a group's index; MSR and PALMASK have none, and stand at 0
+abbrev pub indexOf : Group → Indexes → ℕ
+indexOf Cr x = x .cr
+indexOf Sr x = x .sr
+indexOf Gr x = x .gr
+indexOf Xr x = x .xr
+indexOf Fr x = x .fr
+indexOf Mr x = x .mr
+indexOf Msr x = 0x00
+indexOf Palmask x = 0x00
+
+-- the indexes with one group's replaced
+abbrev pub withIndex : Group → Indexes → ℕ → Indexes
+withIndex g x v = record {
+  cr = cond (is g Cr) v (x .cr);
+  sr = cond (is g Sr) v (x .sr);
+  gr = cond (is g Gr) v (x .gr);
+  xr = cond (is g Xr) v (x .xr);
+  fr = cond (is g Fr) v (x .fr);
+  mr = cond (is g Mr) v (x .mr);
+}

@@ -1,0 +1,167 @@
+// Port reads and writes. Document 01, "Ports" and numbers 0, 1 and 2. A refused access hands back the
+// state as it was.
+ghost use mathlib.Core.Path.{_≡_};
+ghost use Rattle.chip.specs.State.{named, join, indexOf, withIndex};
+ghost use Rattle.chip.specs.Access.{numberOf, portWritten, portRead};
+use crate::Chip;
+use ports::Target;
+use ports::leads_to;
+use registers::Group;
+
+// How an access ended.
+pub enum Answer {
+    Done,
+    Unlisted,
+    Closed,
+}
+
+// What a port write hands back.
+pub struct Wrote {
+    pub answer: Answer,
+    pub chip: Chip,
+}
+
+// What a port read hands back; the value is FFh where it is refused.
+pub struct Seen {
+    pub answer: Answer,
+    pub value: u8,
+    pub chip: Chip,
+}
+
+// Document 01's number of an answer.
+pub fn number(a: Answer) -> u8
+    ensures { λ r. ⌜ r ≡ numberOf a ⌝ }
+{
+    match a {
+        Answer::Done => 0,
+        Answer::Unlisted => 1,
+        Answer::Closed => 2,
+    }
+}
+
+impl Chip {
+    // A group's index; MSR and PALMASK have none, and stand at 0.
+    pub fn index(self, g: Group) -> u8
+        ensures { λ r. ⌜ r ≡ indexOf g (self .indexes) ⌝ }
+    {
+        match g {
+            Group::Cr => self.indexes.cr,
+            Group::Sr => self.indexes.sr,
+            Group::Gr => self.indexes.gr,
+            Group::Xr => self.indexes.xr,
+            Group::Fr => self.indexes.fr,
+            Group::Mr => self.indexes.mr,
+            Group::Msr => 0x00,
+            Group::Palmask => 0x00,
+        }
+    }
+
+    // The state after a group's index is written.
+    pub fn with_index(mut self, g: Group, v: u8) -> Chip
+        ensures { λ r. ⌜ r ≡ join (named self) (withIndex g (self .indexes) v) (self .loading) ⌝ }
+    {
+        match g {
+            Group::Cr => self.indexes.cr = v,
+            Group::Sr => self.indexes.sr = v,
+            Group::Gr => self.indexes.gr = v,
+            Group::Xr => self.indexes.xr = v,
+            Group::Fr => self.indexes.fr = v,
+            Group::Mr => self.indexes.mr = v,
+            Group::Msr => {}
+            Group::Palmask => {}
+        }
+        self
+    }
+
+    // A port write.
+    pub fn write(self, port: u16, v: u8) -> Wrote
+        ensures { λ r. ⌜ r ≡ portWritten self port v ⌝ }
+    {
+        if !self.is_open() {
+            return Wrote {
+                answer: Answer::Closed,
+                chip: self,
+            };
+        }
+        match leads_to(self.is_colour(), true, port) {
+            Target::Index(g) => Wrote {
+                answer: Answer::Done,
+                chip: self.with_index(g, v),
+            },
+            Target::Data(g) => Wrote {
+                answer: Answer::Done,
+                chip: self.put(g, self.index(g), v),
+            },
+            Target::ReadIndex => Wrote {
+                answer: Answer::Done,
+                chip: self.with_loading(self.loading.aim(v, true)),
+            },
+            Target::WriteIndex => Wrote {
+                answer: Answer::Done,
+                chip: self.with_loading(self.loading.aim(v, false)),
+            },
+            Target::Paldata => Wrote {
+                answer: Answer::Done,
+                chip: self.load(v),
+            },
+            Target::NotPicked => Wrote {
+                answer: Answer::Done,
+                chip: self,
+            },
+            Target::NotListed => Wrote {
+                answer: Answer::Unlisted,
+                chip: self,
+            },
+        }
+    }
+
+    // A port read.
+    pub fn read(self, port: u16) -> Seen
+        ensures { λ r. ⌜ r ≡ portRead self port ⌝ }
+    {
+        if !self.is_open() {
+            return Seen {
+                answer: Answer::Closed,
+                value: 0xFF,
+                chip: self,
+            };
+        }
+        match leads_to(self.is_colour(), false, port) {
+            Target::Index(g) => Seen {
+                answer: Answer::Done,
+                value: self.index(g),
+                chip: self,
+            },
+            Target::Data(g) => Seen {
+                answer: Answer::Done,
+                value: self.get(g, self.index(g)),
+                chip: self,
+            },
+            Target::ReadIndex => Seen {
+                answer: Answer::Done,
+                value: self.palstate(),
+                chip: self,
+            },
+            Target::WriteIndex => Seen {
+                answer: Answer::Done,
+                value: self.loading.index,
+                chip: self,
+            },
+            Target::Paldata => Seen {
+                answer: Answer::Done,
+                value: self.paldata(),
+                chip: self.with_loading(self.loading.step()),
+            },
+            Target::NotPicked => Seen {
+                answer: Answer::Done,
+                value: 0xFF,
+                chip: self,
+            },
+            Target::NotListed => Seen {
+                answer: Answer::Unlisted,
+                value: 0xFF,
+                chip: self,
+            },
+        }
+    }
+}

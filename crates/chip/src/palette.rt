@@ -1,0 +1,165 @@
+// The palette. Document 01, "Palette"; chapter 13 of the databook.
+ghost use mathlib.Core.Path.{_≡_};
+ghost use Rattle.chip.specs.State.{named, join, withNamed, withLoading};
+ghost use Rattle.chip.specs.Palette.{byMode, bright as brightOf, component as componentOf, entry as entryOf, coloured, shown as shownOf, aimed, held, moved, loaded, palstate as palstateOf, paldata as paldataOf};
+use crate::Chip;
+use crate::Loading;
+use crate::Rgb;
+use registers::Group;
+
+// A component as a mode stores and reads it: whole, or modulo 64.
+fn by_mode(eight: bool, v: u8) -> u8
+    ensures { λ r. ⌜ r ≡ byMode eight v ⌝ }
+{
+    if eight { v } else { v % 64 }
+}
+
+// A component as it is shown.
+fn bright(eight: bool, v: u8) -> u8
+    ensures { λ r. ⌜ r ≡ brightOf eight v ⌝ }
+{
+    if eight { v } else { v % 64 * 4 }
+}
+
+// The component of an entry at a position.
+fn component(e: Rgb, position: u8) -> u8
+    ensures { λ r. ⌜ r ≡ componentOf e position ⌝ }
+{
+    if position == 2 {
+        return e.blue;
+    }
+    if position == 1 {
+        return e.green;
+    }
+    e.red
+}
+
+impl Loading {
+    // Either index is written.
+    pub fn aim(self, v: u8, reading: bool) -> Loading
+        ensures { λ r. ⌜ r ≡ aimed self v reading ⌝ }
+    {
+        Loading {
+            index: v,
+            position: 0,
+            red: self.red,
+            green: self.green,
+            reading,
+        }
+    }
+
+    // A byte comes to PALDATA, and is held unless the position is blue.
+    pub fn hold(mut self, v: u8) -> Loading
+        ensures { λ r. ⌜ r ≡ held self v ⌝ }
+    {
+        let p = self.position;
+        if p == 2 {
+            return self;
+        }
+        if p == 1 {
+            self.green = v;
+            return self;
+        }
+        self.red = v;
+        self
+    }
+
+    // The position moves on, and after blue the index.
+    pub fn step(mut self) -> Loading
+        ensures { λ r. ⌜ r ≡ moved self ⌝ }
+    {
+        let p = self.position;
+        if p == 2 {
+            let next = std::num::wrapping_add_u8(self.index, 1);
+            self.index = next;
+            self.position = 0;
+            return self;
+        }
+        if p == 1 {
+            self.position = 2;
+            return self;
+        }
+        self.position = 1;
+        self
+    }
+}
+
+impl Chip {
+    // The entry at an index.
+    pub fn entry(self, e: u8) -> Rgb
+        ensures { λ r. ⌜ r ≡ entryOf (named self) e ⌝ }
+    {
+        let at = e as usize;
+        self.palette[at]
+    }
+
+    // The state after a colour is stored at an entry, by the mode of this moment.
+    pub fn put_colour(mut self, e: u8, red: u8, green: u8, blue: u8) -> Chip
+        ensures { λ r. ⌜ r ≡ withNamed self (coloured (named self) e red green blue) ⌝ }
+    {
+        let eight = self.is_eight_bit();
+        let at = e as usize;
+        let r = by_mode(eight, red);
+        let g = by_mode(eight, green);
+        let b = by_mode(eight, blue);
+        self.palette[at] = Rgb {
+            red: r,
+            green: g,
+            blue: b,
+        };
+        self
+    }
+
+    // The state with another loading state.
+    pub fn with_loading(mut self, l: Loading) -> Chip
+        ensures { λ r. ⌜ r ≡ withLoading self l ⌝ }
+    {
+        self.loading = l;
+        self
+    }
+
+    // The state after a byte is written to PALDATA.
+    pub fn load(self, v: u8) -> Chip
+        ensures { λ r. ⌜ r ≡ join (loaded (named self) (self .loading) v) (self .indexes) (moved (held (self .loading) v)) ⌝ }
+    {
+        let l = self.loading;
+        let next = l.hold(v).step();
+        let p = l.position;
+        if p == 2 {
+            return self.put_colour(l.index, l.red, l.green, v)
+                .with_loading(next);
+        }
+        self.with_loading(next)
+    }
+
+    // What PALSTATE reads: which of the two indexes was written last.
+    pub fn palstate(self) -> u8
+        ensures { λ r. ⌜ r ≡ palstateOf (self .loading) ⌝ }
+    {
+        if self.loading.reading { 0x03 } else { 0x00 }
+    }
+
+    // What PALDATA reads: the component at the position, by the mode of this moment.
+    pub fn paldata(self) -> u8
+        ensures { λ r. ⌜ r ≡ paldataOf (named self) (self .loading) ⌝ }
+    {
+        let e = self.entry(self.loading.index);
+        by_mode(self.is_eight_bit(), component(e, self.loading.position))
+    }
+
+    // The colour that a pixel shows.
+    pub fn shown(self, pixel: u8) -> Rgb
+        ensures { λ r. ⌜ r ≡ shownOf (named self) pixel ⌝ }
+    {
+        let eight = self.is_eight_bit();
+        let e = self.entry(pixel & self.get(Group::Palmask, 0x00));
+        let r = bright(eight, e.red);
+        let g = bright(eight, e.green);
+        let b = bright(eight, e.blue);
+        Rgb {
+            red: r,
+            green: g,
+            blue: b,
+        }
+    }
+}

@@ -1,0 +1,39 @@
+-- Each port is looked up in the table, in the direction and with the pair that the tests showed; a port that is none of the
+-- twenty is in none of its rows.
+use borrow.Author.Tests.{ne-eqb}
+use Rattle.ports.specs.Ports.{ports, target}
+use Rattle.ports.proofs.leads_to.Statement.{statement}
+use Rattle.ports.proofs.leads_to.Tie as tie
+
+pub leads-to-spec : {M : Type 1} → statement M
+unfolding target ports
+leads-to-spec =
+    tie.close
+    (tie.spec
+    (λ c. rw (c .before .match .keys1, c .if1 .taken))
+    (λ c. rw (c .before .match .keys1, c .if1 .left))
+    (λ c. rw (c .before .match .keys2, c .if2 .taken))
+    (λ c. rw (c .before .match .keys2, c .if2 .left))
+    (λ c. rw (c .before .match .keys3, c .if3 .taken))
+    (λ c. rw (c .before .match .keys3, c .if3 .left))
+    (λ c. rw (c .match .keys4))
+    (λ c. rw (c .match .keys5))
+    (λ c. rw (c .match .keys6))
+    (λ c. rw (c .match .keys7))
+    (λ c. rw (c .match .keys8))
+    (λ c. rw (c .match .keys9))
+    (λ c. rw (c .before .match .keys10, c .if4 .taken))
+    (λ c. rw (c .before .match .keys10, c .if4 .left))
+    (λ c. rw (c .match .keys11))
+    (λ c. rw (c .match .keys12))
+    (λ c. rw (c .match .keys13))
+    (λ c. rw (c .match .keys14))
+    (λ c. rw (c .match .keys15))
+    (λ c. rw (c .match .keys16))
+    (λ c. rw (c .before .match .keys17, c .if5 .taken))
+    (λ c. rw (c .before .match .keys17, c .if5 .left))
+    (λ c. rw (c .before .match .keys18, c .if6 .taken))
+    (λ c. rw (c .before .match .keys18, c .if6 .left))
+    (λ c. rw (c .match .keys19))
+    (λ c. rw (c .match .keys20))
+    (λ c. let ((((((((((((((((((((_, k1), k2), k3), k4), k5), k6), k7), k8), k9), k10), k11), k12), k13), k14), k15), k16), k17), k18), k19), k20) = c .match .rest in simp ne-eqb))

@@ -1,0 +1,4 @@
+pub mod Every
+pub mod Stretches
+pub mod WriteLaws
+pub mod TableLaws

@@ -1,0 +1,15 @@
+-- With the lock on and off.
+use Rattle.registers.specs.WriteRule.{writableNow}
+use borrow.Author.Needs.{needs}
+use Rattle.registers.proofs.writable_now.Statement.{statement}
+use Rattle.registers.proofs.writable_now.Tie as tie
+
+pub writable-now-spec : {M : Type 1} → statement M
+unfolding writableNow
+writable-now-spec =
+    tie.close
+    (tie.spec
+    (λ c κs. search needs)
+    (λ c κs. search needs)
+    (λ c. rw (c .before .if1 .taken, c .left-open .ensures, c .before .before .writable .ensures))
+    (λ c. rw (c .if1 .left, c .before .writable .ensures)))

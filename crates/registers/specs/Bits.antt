@@ -1,0 +1,10 @@
+-- The bits of a byte, counted from the lowest, 0, as the databook counts them.
+use Prim.Native.Nat.{ℕ, _/_, _%_, _^_}
+use mathlib.Core.Bool.{Bool}
+use lib.Dec.{eqb}
+
+abbrev pub bit : ℕ → ℕ → ℕ
+bit k x = x / 2 ^ k % 2
+
+abbrev pub isSet : ℕ → ℕ → Bool
+isSet k x = eqb (bit k x) 1

@@ -1,0 +1,58 @@
+-- The groups and the row of each register. Document 01, "Ports" (the numbers of the groups) and "Registers".
+-- MSR is chapter 8's, PALMASK chapter 13's: one register each, at whatever index.
+use Prim.Native.Nat.{ℕ}
+use mathlib.Core.Bool.{Bool}
+use lib.Dec.{eqb}
+use Rattle.registers.specs.Rows.{rowIn}
+use Rattle.registers.specs.CrtController.{CR}
+use Rattle.registers.specs.Sequencer.{SR}
+use Rattle.registers.specs.Graphics.{GR}
+use Rattle.registers.specs.Extension.{XR}
+use Rattle.registers.specs.FlatPanel.{FR}
+use Rattle.registers.specs.Multimedia.{MR}
+use Rattle.registers.specs.declared.Group.{Group}
+use Rattle.registers.specs.declared.Group.the-variants.{Cr, Sr, Gr, Xr, Fr, Mr, Msr, Palmask}
+use Rattle.registers.specs.declared.Row.{Row}
+use Rattle.registers.specs.declared.Row.the-variants.{Listed, Unlisted}
+
+-- document 01's number of a group
+abbrev pub numberOf : Group → ℕ
+numberOf Cr = 0
+numberOf Sr = 1
+numberOf Gr = 2
+numberOf Xr = 3
+numberOf Fr = 4
+numberOf Mr = 5
+numberOf Msr = 6
+numberOf Palmask = 7
+
+-- whether two groups are the same
+abbrev pub is : Group → Group → Bool
+is g h = eqb (numberOf g) (numberOf h)
+
+unfoldable pub rowOf : Group → ℕ → Row
+rowOf Cr i = rowIn CR i
+rowOf Sr i = rowIn SR i
+rowOf Gr i = rowIn GR i
+rowOf Xr i = rowIn XR i
+rowOf Fr i = rowIn FR i
+rowOf Mr i = rowIn MR i
+rowOf Msr i = Listed 0xEF 0x00
+rowOf Palmask i = Listed 0xFF 0x00
+
+-- an unlisted index ignores writes and reads 00h
+abbrev pub writableIn : Row → ℕ
+writableIn (Listed w r) = w
+writableIn Unlisted = 0x00
+
+abbrev pub resetIn : Row → ℕ
+resetIn (Listed w r) = r
+resetIn Unlisted = 0x00
+
+-- the bits that a write can change, a lock apart
+abbrev pub writableOf : Group → ℕ → ℕ
+writableOf g i = writableIn (rowOf g i)
+
+-- the byte that a reset leaves, the pins apart
+abbrev pub resetOf : Group → ℕ → ℕ
+resetOf g i = resetIn (rowOf g i)

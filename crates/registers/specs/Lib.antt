@@ -1,0 +1,10 @@
+pub mod Bits
+pub mod Rows
+pub mod CrtController
+pub mod Sequencer
+pub mod Graphics
+pub mod Extension
+pub mod FlatPanel
+pub mod Multimedia
+pub mod Groups
+pub mod WriteRule

@@ -1,0 +1,29 @@
+-- What a write makes of a register's byte. Document 01, "Registers": a data write changes the writable bits only, and
+-- CR11 bit 7 = 1 stops writes to CR00 to CR07, but CR07 bit 4 can always be written.
+-- That bit for bit this is so is the law `digit-written`, in WriteLaws.
+use Prim.Native.Nat.{ℕ, _-_}
+use mathlib.Core.Bool.{Bool, cond}
+use lib.Dec.{eqb, ltb}
+use lib.Bits.{bitAnd, bitOr}
+use Rattle.registers.specs.Groups.{writableOf}
+use Rattle.registers.specs.declared.Group.{Group}
+use Rattle.registers.specs.declared.Group.the-variants.{Cr, Sr, Gr, Xr, Fr, Mr, Msr, Palmask}
+
+-- what a group's lock leaves open of a register; only CR has a lock, CR11 bit 7
+unfoldable pub leftOpen : Group → ℕ → ℕ
+leftOpen Cr i = cond (ltb i 0x07) 0x00 (cond (eqb i 0x07) 0x10 0xFF)
+leftOpen Sr i = 0xFF
+leftOpen Gr i = 0xFF
+leftOpen Xr i = 0xFF
+leftOpen Fr i = 0xFF
+leftOpen Mr i = 0xFF
+leftOpen Msr i = 0xFF
+leftOpen Palmask i = 0xFF
+
+-- the bits that a write can change while the group's lock is on or off
+unfoldable pub writableNow : Group → Bool → ℕ → ℕ
+writableNow g locked i = cond locked (bitAnd (writableOf g i) (leftOpen g i)) (writableOf g i)
+
+-- the byte after a write: the mask's bits are those of `new`, the others those of `old`
+unfoldable pub written : ℕ → ℕ → ℕ → ℕ
+written old new mask = bitOr (bitAnd old (0xFF - mask)) (bitAnd new mask)

@@ -1,0 +1,108 @@
+// The registers of the chip as numbers: which there are, which of their bits can be written, what a
+// reset leaves in them, and what a write makes of a byte. Document 01, "Registers"; the rows are those
+// of chapters 9 to 11 and 14 to 16 of the databook, MSR by chapter 8 and PALMASK by chapter 13.
+// The chip's state is not here: crate `chip` holds it.
+ghost use mathlib.Core.Path.{_≡_};
+ghost use Rattle.registers.specs.Groups.{rowOf, writableOf, resetOf};
+ghost use Rattle.registers.specs.WriteRule.{leftOpen, writableNow, written};
+
+mod rows;
+
+// The groups of document 01's table, in the order of their numbers. MSR and PALMASK are groups of one
+// register: whatever index goes with them is not looked at.
+pub enum Group {
+    Cr,
+    Sr,
+    Gr,
+    Xr,
+    Fr,
+    Mr,
+    Msr,
+    Palmask,
+}
+
+// A register as its chapter lists it, with its writable bits and its reset byte; or an index that the
+// chapter does not list.
+pub enum Row {
+    Listed(u8, u8),
+    Unlisted,
+}
+
+// The row of a register.
+pub fn row_of(g: Group, i: u8) -> Row
+    ensures { λ r. ⌜ r ≡ rowOf g i ⌝ }
+{
+    match g {
+        Group::Cr => rows::cr(i),
+        Group::Sr => rows::sr(i),
+        Group::Gr => rows::gr(i),
+        Group::Xr => rows::xr(i),
+        Group::Fr => rows::fr(i),
+        Group::Mr => rows::mr(i),
+        Group::Msr => Row::Listed(0xEF, 0x00),
+        Group::Palmask => Row::Listed(0xFF, 0x00),
+    }
+}
+
+// The bits that a write can change, a lock apart; none at an unlisted index.
+pub fn writable(g: Group, i: u8) -> u8
+    ensures { λ r. ⌜ r ≡ writableOf g i ⌝ }
+{
+    match row_of(g, i) {
+        Row::Listed(w, _) => w,
+        Row::Unlisted => 0x00,
+    }
+}
+
+// The byte that a reset leaves, the pins apart; 00h at an unlisted index.
+pub fn reset_byte(g: Group, i: u8) -> u8
+    ensures { λ r. ⌜ r ≡ resetOf g i ⌝ }
+{
+    match row_of(g, i) {
+        Row::Listed(_, b) => b,
+        Row::Unlisted => 0x00,
+    }
+}
+
+// What CR11's protection leaves open of a CR register.
+fn left_open_cr(i: u8) -> u8
+    ensures { λ r. ⌜ r ≡ leftOpen Group.Cr i ⌝ }
+{
+    match i {
+        0x00..=0x06 => 0x00,
+        0x07 => 0x10,
+        _ => 0xFF,
+    }
+}
+
+// What a group's lock leaves open of a register.
+fn left_open(g: Group, i: u8) -> u8
+    ensures { λ r. ⌜ r ≡ leftOpen g i ⌝ }
+{
+    match g {
+        Group::Cr => left_open_cr(i),
+        Group::Sr => 0xFF,
+        Group::Gr => 0xFF,
+        Group::Xr => 0xFF,
+        Group::Fr => 0xFF,
+        Group::Mr => 0xFF,
+        Group::Msr => 0xFF,
+        Group::Palmask => 0xFF,
+    }
+}
+
+// The bits that a write can change while the group's lock is on or off.
+pub fn writable_now(g: Group, locked: bool, i: u8) -> u8
+    ensures { λ r. ⌜ r ≡ writableNow g locked i ⌝ }
+{
+    let w = writable(g, i);
+    if locked { w & left_open(g, i) } else { w }
+}
+
+// The byte that a register holds after `new` is written to it over `old`: the writable bits are those of
+// `new`, the others stay.
+pub fn write(old: u8, new: u8, mask: u8) -> u8
+    ensures { λ r. ⌜ r ≡ written old new mask ⌝ }
+{
+    (old & (0xFF - mask)) | (new & mask)
+}
