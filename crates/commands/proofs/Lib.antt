@@ -1,0 +1,4 @@
+pub mod Codec
+pub mod Sending
+pub mod Expanding
+pub mod Translating

@@ -1,0 +1,50 @@
+-- The translation's loop: a turn writes one step's commands behind those of the steps before it; and its answers.
+use Prim.Native.Nat.{ℕ, zero, suc, _+_, _*_, _/_, _≤_, _<_}
+use native.Mathlib.Omega.{arith}
+use native.Mathlib.Numerals.{add-one}
+use mathlib.Core.Bool.{Bool, true, false, cond}
+use mathlib.Core.Path.{_≡_, refl, sym, ap, _∙_}
+use mathlib.Core.List.{List, [], _∷_, _++_}
+use lib.Dec.{ltb}
+use lib.ListN.{length}
+use borrow.Author.Tests.{lt-ltb, le-ltb}
+use Rattle.lists.specs.Put.{put}
+use Rattle.steps.specs.declared.Step.{Step}
+use Rattle.script.specs.File.{stepCount, checked}
+use Rattle.script.specs.Reader.{nextOf}
+use Rattle.script.specs.declared.Checked.the-variants.{Accepted}
+use Rattle.script.specs.declared.Next.{Next}
+use Rattle.script.specs.declared.Next.the-variants.{Found}
+use Rattle.script.specs.declared.Refusal.the-variants.{Room}
+use Rattle.script.proofs.Checking.{Legal, answer-says}
+use Rattle.commands.specs.Command.{bytesOfAll}
+use Rattle.commands.specs.Expansion.{expanded, commandsOf}
+use Rattle.commands.specs.Translation.{stepsTo, commandsTo, begins, Sent, translated, leftBy}
+use Rattle.commands.specs.declared.Translated.the-variants.{Commands, Refused}
+use Rattle.commands.proofs.Sending.{sent-append, sent-none}
+use Rattle.commands.proofs.Expanding.{commands-next}
+
+pub sent-start : (f o : List ℕ) → Sent o 0 (commandsTo f 0) o 0
+unfolding stepsTo commandsOf
+sent-start f o = sent-none o 0
+
+pub sent-step : (f o : List ℕ) (j : ℕ) (s : Step) {o₁ o₂ : List ℕ} {e₁ e₂ : ℕ} → nextOf f j ≡ Found s → Sent o 0 (commandsTo f j) o₁ e₁
+    → Sent o₁ e₁ (expanded s) o₂ e₂ → e₂ ≤ length o → Sent o 0 (commandsTo f (j + 1)) o₂ e₂
+sent-step f o j s is sent more room = rw (add-one, commands-next f j s is) (sent-append sent more room)
+
+module _ (f o : List ℕ) (m : ℕ) (acc : checked f ≡ Accepted m) where
+  pub too-little-room : length o / 32 < m → Refused Room ≡ translated f (length o)
+  unfolding translated
+  too-little-room h = let k : length o < 32 * m = omega arith in rw (acc, lt-ltb _ _ k)
+
+  module _ (room : m ≤ length o / 32) where
+    pub enough-room : 32 * m ≤ length o
+    enough-room = omega arith
+
+    pub translated-whole : {o′ : List ℕ} {e : ℕ} → Sent o 0 (commandsTo f m) o′ e
+        → (Commands (e / 4) ≡ translated f (length o)) × (o′ ≡ leftBy (Commands (e / 4)) f o)
+    unfolding translated
+    translated-whole {o′} {e} s =
+        let k : e / 4 ≡ begins f m = omega (arith, s .next) in
+        let l : Legal f m = answer-says f acc in
+        (rw (acc, le-ltb _ _ enough-room, k) refl, s .bytes ∙ ap (λ (n : ℕ). put o 0 (bytesOfAll (commandsTo f n))) (sym (l .count)))

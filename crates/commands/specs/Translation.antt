@@ -1,0 +1,65 @@
+-- A whole script file translated into its commands: document 01, "Commands" and "Numbers returned", 8, 6, 7 and 9 in that order.
+-- Where a step's commands begin is how many commands the steps before it have.
+use Prim.Native.Nat.{ℕ, zero, suc, _+_, _*_}
+use mathlib.Core.Bool.{cond}
+use mathlib.Core.Path.{_≡_}
+use mathlib.Core.List.{List, [], _∷_, _++_}
+use lib.Dec.{ltb}
+use lib.ListN.{length}
+use Rattle.lists.specs.Put.{put}
+use Rattle.steps.specs.declared.Step.{Step}
+use Rattle.script.specs.File.{stepCount, checked}
+use Rattle.script.specs.Reader.{nextOf}
+use Rattle.script.specs.Numbers.{Returned, returned, ofRefusal}
+use Rattle.script.specs.declared.Refusal.{Refusal}
+use Rattle.script.specs.declared.Refusal.the-variants.{Room}
+use Rattle.script.specs.declared.Checked.{Checked}
+use Rattle.script.specs.declared.Checked.the-variants.{Accepted, Refused as NotAccepted}
+use Rattle.script.specs.declared.Next.{Next}
+use Rattle.script.specs.declared.Next.the-variants.{Found, Refused as NoStep, End}
+use Rattle.commands.specs.Command.{bytesOfAll}
+use Rattle.commands.specs.Expansion.{commandsOf}
+use Rattle.commands.specs.declared.Command.{Command}
+use Rattle.commands.specs.declared.Translated.{Translated}
+use Rattle.commands.specs.declared.Translated.the-variants.{Commands, Refused}
+
+-- what the reader hands out, as a list
+abbrev pub handed : Next → List Step
+handed (Found s) = s ∷ []
+handed (NoStep r) = []
+handed End = []
+
+-- the first n steps of a file, as the reader hands them out
+unfoldable pub stepsTo : List ℕ → ℕ → List Step
+stepsTo f zero = []
+stepsTo f (suc n) = stepsTo f n ++ handed (nextOf f n)
+
+-- the commands of the first n steps, and how many they are
+abbrev pub commandsTo : List ℕ → ℕ → List Command
+commandsTo f n = commandsOf (stepsTo f n)
+
+abbrev pub begins : List ℕ → ℕ → ℕ
+begins f n = length (commandsTo f n)
+
+-- an accepted file wants 32 bytes a step, even where its commands would fit in fewer
+abbrev pub ifRoom : Checked → List ℕ → ℕ → Translated
+ifRoom (Accepted m) f room = cond (ltb room (32 * m)) (Refused Room) (Commands (begins f m))
+ifRoom (NotAccepted r) f room = Refused r
+
+unfoldable pub translated : List ℕ → ℕ → Translated
+translated f room = ifRoom (checked f) f room
+
+-- what the lent output then holds: a refusal changes no byte, and bytes after the commands keep their value
+abbrev pub leftBy : Translated → List ℕ → List ℕ → List ℕ
+leftBy (Commands k) f out = put out 0 (bytesOfAll (commandsTo f (stepCount f)))
+leftBy (Refused r) f out = out
+
+-- document 01's number and value for each answer
+abbrev pub numbersOf : Translated → Returned
+numbersOf (Commands k) = returned 0 k
+numbersOf (Refused r) = ofRefusal r
+
+-- the bytes of commands stand in an output from a place on, and end at another
+pub record Sent (before : List ℕ) (at : ℕ) (cs : List Command) (after : List ℕ) (end : ℕ) : Type 0 where
+  pub bytes : after ≡ put before at (bytesOfAll cs)
+  pub next : end ≡ at + 4 * length cs

@@ -1,0 +1,255 @@
+// Commands: four bytes each, and the commands that a script's steps stand for. Document 01, "Commands", and
+// number 9 for commands. Running them is crate `run`'s.
+ghost use mathlib.Core.Path.{_≡_};
+ghost use mathlib.Core.List.{[], _∷_};
+ghost use Prim.Native.Nat.{_+_, _*_, _≤_, _%_, _/_};
+ghost use lib.ListN.{length};
+ghost use Rattle.script.specs.File.{checked};
+ghost use Rattle.commands.specs.Command.{bytesOf, commandOf};
+ghost use Rattle.commands.specs.Expansion.{ways as waysOf, setBy, fieldBy, expanded};
+ghost use Rattle.commands.specs.Translation.{Sent, commandsTo, translated, leftBy};
+use reader::nth;
+use script::Checked;
+use script::Next;
+use script::Refusal;
+use script::check_file;
+use steps::Step;
+
+// A command is one of four kinds.
+pub enum Command {
+    // A byte to a port.
+    Out(u16, u8),
+    // A byte from a port to the accumulator.
+    In(u16),
+    // The accumulator AND `keep`, OR `set`.
+    Merge(u8, u8),
+    // The accumulator to a port.
+    OutAcc(u16),
+}
+
+// What four bytes are.
+pub enum CommandRead {
+    Known(Command),
+    Unknown,
+}
+
+// How a group's registers are reached.
+pub enum Ways {
+    // An index port and a data port.
+    Pair(u16, u16),
+    // Two such pairs, one after the other.
+    Pairs(u16, u16, u16, u16),
+    // A port to write and a port to read, with no index.
+    Direct(u16, u16),
+    // There is no such group.
+    Nowhere,
+}
+
+// What the translation of a file answers: how many commands there are, or why it is refused.
+pub enum Translated {
+    Commands(usize),
+    Refused(Refusal),
+}
+
+// Four bytes read as a command.
+pub fn command_of(a: u8, b: u8, c: u8, d: u8) -> CommandRead
+    ensures { λ r. ⌜ r ≡ commandOf a b c d ⌝ }
+{
+    let port = b as u16 + c as u16 * 256;
+    if a == 1 {
+        return CommandRead::Known(Command::Out(port, d));
+    }
+    if (a == 2) & (d == 0) {
+        return CommandRead::Known(Command::In(port));
+    }
+    if (a == 3) & (d == 0) {
+        return CommandRead::Known(Command::Merge(b, c));
+    }
+    if (a == 4) & (d == 0) {
+        return CommandRead::Known(Command::OutAcc(port));
+    }
+    CommandRead::Unknown
+}
+
+// The low and the high byte of a port.
+fn low(port: u16) -> u8
+    ensures { λ r. ⌜ r ≡ port % 256 ⌝ }
+{
+    (port % 256) as u8
+}
+
+fn high(port: u16) -> u8
+    ensures { λ r. ⌜ r ≡ port / 256 ⌝ }
+{
+    (port / 256) as u8
+}
+
+// A command as four bytes.
+pub fn to_bytes(c: Command) -> [u8; 4]
+    ensures { λ r. ⌜ r ≡ bytesOf c ⌝ }
+{
+    match c {
+        Command::Out(port, v) => [1, low(port), high(port), v],
+        Command::In(port) => [2, low(port), high(port), 0],
+        Command::Merge(keep, set) => [3, keep, set, 0],
+        Command::OutAcc(port) => [4, low(port), high(port), 0],
+    }
+}
+
+// The ports of a group.
+pub fn ports_of(group: u8) -> Ways
+    ensures { λ r. ⌜ r ≡ waysOf group ⌝ }
+{
+    match group {
+        0 => Ways::Pairs(0x3B4, 0x3B5, 0x3D4, 0x3D5),
+        1 => Ways::Pair(0x3C4, 0x3C5),
+        2 => Ways::Pair(0x3CE, 0x3CF),
+        3 => Ways::Pair(0x3D6, 0x3D7),
+        4 => Ways::Pair(0x3D0, 0x3D1),
+        5 => Ways::Pair(0x3D2, 0x3D3),
+        6 => Ways::Direct(0x3C2, 0x3CC),
+        7 => Ways::Direct(0x3C6, 0x3C6),
+        _ => Ways::Nowhere,
+    }
+}
+
+// One command into an output; where the next one goes.
+fn put_command(out: &mut [u8], at: usize, c: Command) -> usize
+    requires { ⌜ at + 4 ≤ length (now out) ⌝ }
+    ensures { λ r. ⌜ Sent (now (out .entry)) at (c ∷ []) (now (out .exit)) r ⌝ }
+{
+    let b = to_bytes(c);
+    out[at] = b[0];
+    out[at + 1] = b[1];
+    out[at + 2] = b[2];
+    out[at + 3] = b[3];
+    at + 4
+}
+
+// A byte to each of two ports.
+fn put_outs(out: &mut [u8], at: usize, x: u16, i: u8, p: u16, v: u8) -> usize
+    requires { ⌜ at + 8 ≤ length (now out) ⌝ }
+    ensures { λ r. ⌜ Sent (now (out .entry)) at (Command.Out x i ∷ Command.Out p v ∷ []) (now (out .exit)) r ⌝ }
+{
+    let next = put_command(out, at, Command::Out(x, i));
+    put_command(out, next, Command::Out(p, v))
+}
+
+// A read, a merge and a write back.
+fn put_change(out: &mut [u8], at: usize, r: u16, w: u16, keep: u8, set: u8) -> usize
+    requires { ⌜ at + 12 ≤ length (now out) ⌝ }
+    ensures { λ e. ⌜ Sent (now (out .entry)) at (Command.In r ∷ Command.Merge keep set ∷ Command.OutAcc w ∷ []) (now (out .exit)) e ⌝ }
+{
+    let second = put_command(out, at, Command::In(r));
+    let third = put_command(out, second, Command::Merge(keep, set));
+    put_command(out, third, Command::OutAcc(w))
+}
+
+// An index, and then a read, a merge and a write back.
+fn put_indexed_change(out: &mut [u8], at: usize, x: u16, i: u8, p: u16, keep: u8, set: u8) -> usize
+    requires { ⌜ at + 16 ≤ length (now out) ⌝ }
+    ensures { λ e. ⌜ Sent (now (out .entry)) at (Command.Out x i ∷ Command.In p ∷ Command.Merge keep set ∷ Command.OutAcc p ∷ []) (now (out .exit)) e ⌝ }
+{
+    let next = put_command(out, at, Command::Out(x, i));
+    put_change(out, next, p, p, keep, set)
+}
+
+// The commands of a SET.
+fn put_set(out: &mut [u8], at: usize, w: Ways, i: u8, v: u8) -> usize
+    requires { ⌜ at + 32 ≤ length (now out) ⌝ }
+    ensures { λ r. ⌜ Sent (now (out .entry)) at (setBy w i v) (now (out .exit)) r ⌝ }
+{
+    match w {
+        Ways::Pair(x, p) => put_outs(out, at, x, i, p, v),
+        Ways::Pairs(x, p, y, q) => {
+            let next = put_outs(out, at, x, i, p, v);
+            put_outs(out, next, y, i, q, v)
+        }
+        Ways::Direct(p, _) => put_command(out, at, Command::Out(p, v)),
+        Ways::Nowhere => at,
+    }
+}
+
+// The commands of a FIELD.
+fn put_field(out: &mut [u8], at: usize, w: Ways, i: u8, keep: u8, set: u8) -> usize
+    requires { ⌜ at + 32 ≤ length (now out) ⌝ }
+    ensures { λ r. ⌜ Sent (now (out .entry)) at (fieldBy w i keep set) (now (out .exit)) r ⌝ }
+{
+    match w {
+        Ways::Pair(x, p) => put_indexed_change(out, at, x, i, p, keep, set),
+        Ways::Pairs(x, p, y, q) => {
+            let next = put_indexed_change(out, at, x, i, p, keep, set);
+            put_indexed_change(out, next, y, i, q, keep, set)
+        }
+        Ways::Direct(p, r) => put_change(out, at, r, p, keep, set),
+        Ways::Nowhere => at,
+    }
+}
+
+// The commands of a step.
+fn put_step(out: &mut [u8], at: usize, s: Step) -> usize
+    requires { ⌜ at + 32 ≤ length (now out) ⌝ }
+    ensures { λ r. ⌜ Sent (now (out .entry)) at (expanded s) (now (out .exit)) r ⌝ }
+{
+    match s {
+        Step::Set {
+            group,
+            index,
+            value,
+        } => {
+            let w = ports_of(group);
+            put_set(out, at, w, index, value)
+        }
+        Step::Field {
+            group,
+            index,
+            value,
+            mask,
+        } => {
+            let w = ports_of(group);
+            put_field(out, at, w, index, 0xFF - mask, value)
+        }
+        Step::Colour {
+            entry,
+            red,
+            green,
+            blue,
+        } => {
+            let next = put_outs(out, at, 0x3C8, entry, 0x3C9, red);
+            put_outs(out, next, 0x3C9, green, 0x3C9, blue)
+        }
+    }
+}
+
+// The commands of the steps of an accepted file; where they end.
+fn put_steps(file: &[u8], m: usize, out: &mut [u8]) -> usize
+    requires { ⌜ (checked (now file) ≡ Checked.Accepted m) × (32 * m ≤ length (now out)) ⌝ }
+    ensures { λ r. ⌜ Sent (now (out .entry)) 0 (commandsTo (now (file .entry)) m) (now (out .exit)) r ⌝ }
+{
+    let mut at = 0;
+    let mut j = 0;
+    while j < m {
+        let Next::Found(step) = nth(file, j) else {
+            return at;
+        };
+        at = put_step(out, at, step);
+        j += 1;
+    }
+    at
+}
+
+// A script file translated into commands: 8, then 6, then 7, then 9; else how many there are.
+pub fn translate(file: &[u8], out: &mut [u8]) -> Translated
+    ensures { λ r. ⌜ r ≡ translated (now (file .entry)) (length (now (out .entry))) ⌝ }
+    ensures { λ r. ⌜ now (out .exit) ≡ leftBy r (now (file .entry)) (now (out .entry)) ⌝ }
+{
+    match check_file(file) {
+        Checked::Refused(r) => Translated::Refused(r),
+        Checked::Accepted(m) => {
+            if out.len() / 32 < m {
+                return Translated::Refused(Refusal::Room);
+            }
+            Translated::Commands(put_steps(file, m, out) / 4)
+        }
+    }
+}

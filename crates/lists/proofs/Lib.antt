@@ -1,0 +1,5 @@
+pub mod Tests
+pub mod Scan
+pub mod Tab
+pub mod Put
+pub mod Parts

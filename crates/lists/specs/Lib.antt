@@ -1,0 +1,4 @@
+pub mod Scan
+pub mod Tab
+pub mod Put
+pub mod Units

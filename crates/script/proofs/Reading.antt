@@ -1,0 +1,110 @@
+-- Laws of the reader: what it answers before and after the last step; over an accepted file it hands out
+-- every step, and over one refused with 7 it hands out those before the refused one and refuses there.
+use mathlib.Core.Path.{_≡_, refl, sym, ap, _∙_}
+use mathlib.Core.List.{List}
+use mathlib.Core.Bool.{Bool, true, false, cond, true≢false}
+use Prim.Native.Nat.{ℕ, zero, suc, _≤_, _<_, min}
+use native.Mathlib.Decide.{decLt}
+use native.Mathlib.Omega.{arith}
+use borrow.Author.Tests.{lt-ltb, le-ltb, ltb-true, ltb-false}
+use lib.Dec.{ltb}
+use lib.ListN.{take, drop}
+use Rattle.lists.proofs.Scan.{first-before, first-fails, end-first}
+use Rattle.steps.specs.Step.{legal, bytesOf, isGood}
+use Rattle.steps.specs.declared.Step.{Step}
+use Rattle.steps.specs.declared.StepRead.{StepRead}
+use Rattle.steps.specs.declared.StepRead.the-variants.{Good, Refused as NoStep}
+use Rattle.steps.proofs.Codec.{written-read}
+use Rattle.script.specs.File.{stepCount, stepPlace, stepAt, firstBadStep, checked}
+use Rattle.script.specs.Reader.{asNext, nextOf, after, stood, turned}
+use Rattle.script.specs.declared.Layout.the-variants.{Blocks}
+use Rattle.script.specs.declared.Refusal.{Refusal}
+use Rattle.script.specs.declared.Refusal.the-variants.{Step as NoSuch}
+use Rattle.script.specs.declared.Checked.the-variants.{Accepted, Refused as Rejected}
+use Rattle.script.specs.declared.Next.{Next}
+use Rattle.script.specs.declared.Next.the-variants.{Found, Refused, End}
+use Rattle.script.specs.declared.Turn.{Turn}
+use Rattle.script.proofs.Checking.{Legal, BadStep, answer-says}
+
+module _ (f : List ℕ) (j : ℕ) where
+  pub next-there : j < stepCount f → nextOf f j ≡ asNext (stepAt Blocks f j) j
+  unfolding nextOf
+  next-there h = rw (lt-ltb _ _ h)
+
+  pub next-past : stepCount f ≤ j → nextOf f j ≡ End
+  unfolding nextOf
+  next-past h = rw (le-ltb _ _ h)
+
+  pub found-before : (s : Step) → nextOf f j ≡ Found s → j < stepCount f
+  unfolding nextOf
+  found-before s e = go (ltb j (stepCount f)) refl
+    where
+      go : (b : Bool) → ltb j (stepCount f) ≡ b → j < stepCount f
+      go true q = ltb-true j (stepCount f) q
+      go false q = absurd (let t : End ≡ Found s = rw q at e in let z : _≡_ {A = ℕ} 0 1 = cc in omega arith)
+
+  -- "After the last step it answers the end", however often it is asked: the position stays where it is
+  pub turn-past : stepCount f ≤ j → _≡_ {A = Turn} (turned f j) (record { next = End; place = record { at = j } })
+  turn-past h = rw (next-past h)
+
+-- ---- what is handed out at step j: a legal step, whose six bytes stand at its place
+pub record Handed (f : List ℕ) (j : ℕ) : Type 0 where
+  pub step : Step
+  pub answer : nextOf f j ≡ Found step
+  pub bytes : bytesOf step ≡ take 6 (drop (stepPlace Blocks j) f)
+  pub lawful : legal step ≡ true
+
+handed : (f : List ℕ) (j : ℕ) → j < stepCount f → isGood (stepAt Blocks f j) ≡ true → Handed f j
+handed f j h g = go (stepAt Blocks f j) refl g
+  where
+    go : (r : StepRead) → stepAt Blocks f j ≡ r → isGood r ≡ true → Handed f j
+    go (Good s) e g =
+        let w = written-read (take 6 (drop (stepPlace Blocks j) f)) s e in
+        record { step = s; answer = next-there f j h ∙ ap (λ r. asNext r j) e; bytes = w .0; lawful = w .1 }
+    go NoStep e g = absurd (true≢false (sym g))
+
+-- over an accepted file every step is handed out
+pub accepted-handed : (f : List ℕ) (m : ℕ) → checked f ≡ Accepted m → (j : ℕ) → j < m → Handed f j
+accepted-handed f m acc j h =
+    let l : Legal f m = answer-says f acc in
+    handed f j (omega (arith, l .count)) (end-first (λ i. isGood (stepAt Blocks f i)) m (l .steps-legal) j h)
+
+-- .. and then the end
+pub accepted-end : (f : List ℕ) (m : ℕ) → checked f ≡ Accepted m → (j : ℕ) → m ≤ j → nextOf f j ≡ End
+accepted-end f m acc j h = let l : Legal f m = answer-says f acc in next-past f j (omega (arith, l .count))
+
+-- step after step: n turns stand at step n, and past the last step they stand still
+pub accepted-stood : (f : List ℕ) (m : ℕ) → checked f ≡ Accepted m → (n : ℕ) → stood f n ≡ min n m
+unfolding stood
+accepted-stood f m acc zero = omega arith
+accepted-stood f m acc (suc n) = go (stood f n) (accepted-stood f m acc n) (decLt n m)
+  where
+    go : (p : ℕ) → p ≡ min n m → Dec (n < m) → after (nextOf f p) p ≡ min (suc n) m
+    go p e (yes h) =
+        let e′ : p ≡ n = omega arith in
+        ap (λ (q : ℕ). after (nextOf f q) q) e′
+        ∙ ap (λ (x : Next). after x n) (accepted-handed f m acc n h .answer)
+        ∙ omega arith
+    go p e (no h) =
+        let e′ : p ≡ m = omega arith in
+        ap (λ (q : ℕ). after (nextOf f q) q) e′
+        ∙ ap (λ (x : Next). after x m) (accepted-end f m acc m (omega arith))
+        ∙ omega arith
+
+-- ---- a file refused with 7
+pub record Stopped (f : List ℕ) (j : ℕ) : Type 0 where
+  pub before : (i : ℕ) → i < j → Handed f i
+  pub there : nextOf f j ≡ Refused (NoSuch j)
+
+stopped : (f : List ℕ) (j : ℕ) → j ≡ firstBadStep Blocks f (stepCount f) → j < stepCount f → Stopped f j
+stopped f j e h = record {
+  before = λ i hi. handed f i (omega arith) (first-before (λ i. isGood (stepAt Blocks f i)) (stepCount f) i (omega arith));
+  there = next-there f j h ∙ bad (stepAt Blocks f j) (ap (λ (n : ℕ). isGood (stepAt Blocks f n)) e ∙ first-fails (λ i. isGood (stepAt Blocks f i)) (stepCount f) (omega arith));
+}
+  where
+    bad : (r : StepRead) → isGood r ≡ false → asNext r j ≡ Refused (NoSuch j)
+    bad (Good s) g = absurd (true≢false g)
+    bad NoStep g = refl
+
+pub refused-stopped : (f : List ℕ) (j : ℕ) → checked f ≡ Rejected (NoSuch j) → Stopped f j
+refused-stopped f j e = let b : BadStep f j = answer-says f e in stopped f j (sym (b .first)) (b .there)

@@ -1,0 +1,43 @@
+-- `next_at` meets its contract: past the last step the end, and before it the step that is read there, or its refusal.
+use mathlib.Core.Path.{_≡_, sym, ap, _∙_}
+use native.Mathlib.Omega.{arith}
+use borrow.Author.Needs.{needs}
+use denote.Ref.{now}
+use Rattle.script.specs.Reader.{asNext}
+use Rattle.script.proofs.Reading.{next-there, next-past}
+use Rattle.script.proofs.next_at.Statement.{statement}
+use Rattle.script.proofs.next_at.Tie as tie
+
+-- after the last step
+returns : tie.Need-returns
+returns c =
+    let a = c .before .before .before .args in
+    sym (next-past (now (a .file)) (a .at) (omega (arith, c .before .step-count .ensures)))
+
+-- six bytes that are no step
+returns-2 : tie.Need-returns-2
+returns-2 c =
+    let t = c .before .before .before in
+    let a = t .before .before .before .args in
+    sym (next-there (now (a .file)) (a .at) (omega (arith, t .before .step-count .ensures))
+    ∙ ap (λ r. asNext r (a .at)) (sym (c .before .before .step-at .ensures) ∙ c .enum-told .given .1))
+
+-- a step
+returns-3 : tie.Need-returns-3
+returns-3 c =
+    let t = c .before .before .before .before in
+    let a = t .before .before .before .args in
+    sym (next-there (now (a .file)) (a .at) (omega (arith, t .before .step-count .ensures))
+    ∙ ap (λ r. asNext r (a .at)) (sym (c .before .before .before .step-at .ensures) ∙ c .before .step .given .1))
+
+pub next-at-spec : {M : Type 1} → statement M
+next-at-spec =
+    tie.close
+    (tie.spec
+    (λ c κs. search needs)
+    returns
+    (λ c κs. search needs)
+    (λ c. search needs)
+    (λ c. search needs)
+    returns-2
+    returns-3)

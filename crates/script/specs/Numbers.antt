@@ -1,0 +1,49 @@
+-- Document 01's numbers for each answer, with the value returned beside it (Numbers returned): one
+-- definition to an answer, and the table of numbers for a checked file, which `checked` is proved to meet.
+use Prim.Native.Nat.{ℕ}
+use mathlib.Core.List.{List}
+use mathlib.Core.Bool.{cond, not}
+use lib.Dec.{ltb}
+use Rattle.script.specs.File.{wholeBlocks, blocks, firstBadBlock, stepCount, firstBadStep}
+use Rattle.script.specs.declared.Layout.the-variants.{Blocks}
+use Rattle.script.specs.declared.Refusal.{Refusal}
+use Rattle.script.specs.declared.Refusal.the-variants.{Length, Block, Step, Room}
+use Rattle.script.specs.declared.Checked.{Checked}
+use Rattle.script.specs.declared.Checked.the-variants.{Accepted, Refused}
+use Rattle.script.specs.declared.Next.{Next}
+use Rattle.script.specs.declared.Next.the-variants.{Found, Refused as NoStep, End}
+
+-- a number and the value with it; 0 where nothing more is returned
+pub record Returned : Type 0 where
+  pub number : ℕ
+  pub value : ℕ
+
+abbrev pub returned : ℕ → ℕ → Returned
+returned n v = record { number = n; value = v }
+
+-- 6 a block breaks a rule: block number; 7 a step is none of the allowed: step number; 8 not whole blocks
+-- or steps; 9 too little room
+abbrev pub ofRefusal : Refusal → Returned
+ofRefusal (Block k) = returned 6 k
+ofRefusal (Step j) = returned 7 j
+ofRefusal Length = returned 8 0
+ofRefusal Room = returned 9 0
+
+-- 0 done: the number of steps
+abbrev pub ofChecked : Checked → Returned
+ofChecked (Accepted m) = returned 0 m
+ofChecked (Refused r) = ofRefusal r
+
+-- 0 done: the answer is the step, or the end, and no number
+abbrev pub ofNext : Next → Returned
+ofNext (Found s) = returned 0 0
+ofNext (NoStep r) = ofRefusal r
+ofNext End = returned 0 0
+
+-- the table for a file, in its order
+abbrev pub fileTable : List ℕ → Returned
+fileTable f =
+    cond (not (wholeBlocks f)) (returned 8 0)
+    (cond (ltb (firstBadBlock f) (blocks f)) (returned 6 (firstBadBlock f))
+    (cond (ltb (firstBadStep Blocks f (stepCount f)) (stepCount f)) (returned 7 (firstBadStep Blocks f (stepCount f)))
+    (returned 0 (stepCount f))))

@@ -1,0 +1,258 @@
+// Script files: blocks and their check, the steps of a file, the checked file, and the reader as a position
+// beside the caller's bytes (document 01, Scripts; numbers 8, 6 and 7 in that order). The definitions are in
+// specs/: Block, File, Reader, Numbers. The reader as a struct over the bytes is the crate reader, and
+// making a file is the crate writer.
+ghost use mathlib.Core.Path.{_≡_};
+ghost use mathlib.Core.Bool.{cond};
+ghost use Prim.Native.Nat.{_+_, _*_, _%_, _/_, _≤_};
+ghost use lib.ListN.{length};
+ghost use Rattle.script.specs.Block.{wordSum, checkWord, lastMark, countLegal, unusedZero, contentLegal, blockLegal};
+ghost use Rattle.script.specs.File.{blocks, firstBadBlock, stepCount, stepPlace, stepAt, firstBadStep, checked};
+ghost use Rattle.script.specs.Reader.{nextOf, turned};
+ghost use Rattle.script.specs.Numbers.{ofChecked, fileTable};
+use lists::is_whole;
+use lists::wide;
+use steps::Step;
+use steps::StepRead;
+use steps::read_at;
+
+// How steps stand in a list of bytes: one after another, or in the blocks of a file.
+pub enum Layout {
+    Plain,
+    Blocks,
+}
+
+// Why a file, a step list or an output is refused.
+pub enum Refusal {
+    Length,
+    Block(usize),
+    Step(usize),
+    Room,
+}
+
+// What checking a file answers: its number of steps, or the refusal.
+pub enum Checked {
+    Accepted(usize),
+    Refused(Refusal),
+}
+
+// What the reader answers: a step, the refusal, or after the last step the end.
+pub enum Next {
+    Found(Step),
+    Refused(Refusal),
+    End,
+}
+
+// The reader as a position beside the caller's bytes: the number of the step that it stands at.
+pub struct Position {
+    pub at: usize,
+}
+
+// What a turn of the reader gives: its answer, and where it then stands.
+pub struct Turn {
+    pub next: Next,
+    pub place: Position,
+}
+
+// The sum of the words, modulo 65,536.
+pub fn word_sum(list: &[u8]) -> usize
+    ensures { λ r. ⌜ r ≡ wordSum (now (list .entry)) % 65536 ⌝ }
+{
+    let mut sum = 0;
+    let mut i = 0;
+    while i < list.len() / 2 {
+        sum = (sum + wide(list[2 * i]) + 256 * wide(list[2 * i + 1])) % 65536;
+        i += 1;
+    }
+    sum
+}
+
+// The check of a block whose other bytes are these.
+pub fn check_word(front: &[u8]) -> usize
+    ensures { λ r. ⌜ r ≡ checkWord (now (front .entry)) ⌝ }
+{
+    (65537 - word_sum(front)) % 65536
+}
+
+// Byte 3 of a block.
+pub fn last_mark(last: bool) -> u8
+    ensures { λ r. ⌜ r ≡ lastMark last ⌝ }
+{
+    if last { 1 } else { 0 }
+}
+
+// Whether a block may have so many steps.
+fn is_count(count: u8, last: bool) -> bool
+    ensures { λ r. ⌜ r ≡ countLegal count last ⌝ }
+{
+    if last {
+        return (1 <= count) & (count <= 84);
+    }
+    count == 84
+}
+
+// Whether the places after the first `count` steps are zero.
+fn is_unused_zero(block: &[u8], count: usize) -> bool
+    requires { ⌜ (length (now block) ≡ 512) × (count ≤ 255) ⌝ }
+    ensures { λ r. ⌜ r ≡ unusedZero (now (block .entry)) count ⌝ }
+{
+    let mut i = 6 + 6 * count;
+    while i < 510 {
+        if block[i] != 0 {
+            return false;
+        }
+        i += 1;
+    }
+    true
+}
+
+// The rules of a block apart from its number and its check.
+fn is_content(block: &[u8], last: bool) -> bool
+    requires { ⌜ length (now block) ≡ 512 ⌝ }
+    ensures { λ r. ⌜ r ≡ contentLegal (now (block .entry)) last ⌝ }
+{
+    (block[3] == last_mark(last))
+        & (block[4] == 0)
+        & (block[5] == 0)
+        & is_count(block[2], last)
+        & is_unused_zero(block, wide(block[2]))
+}
+
+// Whether bytes are block `number` of a file, the last of it or not.
+pub fn is_block(block: &[u8], number: usize, last: bool) -> bool
+    ensures { λ r. ⌜ r ≡ blockLegal (now (block .entry)) number last ⌝ }
+{
+    if block.len() != 512 {
+        return false;
+    }
+    let found = wide(block[0]) + 256 * wide(block[1]);
+    (found == number) & is_content(block, last) & (word_sum(block) == 1)
+}
+
+// The first block that breaks a rule, or the number of blocks.
+pub fn first_bad_block(file: &[u8]) -> usize
+    ensures { λ r. ⌜ r ≡ firstBadBlock (now (file .entry)) ⌝ }
+{
+    let count = file.len() / 512;
+    let mut k = 0;
+    while k < count {
+        let at = 512 * k;
+        let end = at + 512;
+        if is_block(&file[at..end], k, k + 1 == count) {
+            k += 1;
+        } else {
+            return k;
+        }
+    }
+    k
+}
+
+// The number of steps of a file.
+pub fn step_count(file: &[u8]) -> usize
+    ensures { λ r. ⌜ r ≡ stepCount (now (file .entry)) ⌝ }
+{
+    let count = file.len() / 512;
+    if count == 0 {
+        return 0;
+    }
+    let last = count - 1;
+    84 * last + wide(file[512 * last + 2])
+}
+
+// The bytes ahead of step j that are no steps.
+fn ahead(layout: Layout, j: usize) -> usize
+    ensures { λ r. ⌜ (r + 6 * j ≡ stepPlace layout j) × (r ≤ 8 * (j / 84) + 6) ⌝ }
+{
+    match layout {
+        Layout::Plain => 0,
+        Layout::Blocks => 8 * (j / 84) + 6,
+    }
+}
+
+// The step at a place, or the refusal.
+pub fn step_at(list: &[u8], layout: Layout, j: usize) -> StepRead
+    ensures { λ r. ⌜ r ≡ stepAt layout (now (list .entry)) j ⌝ }
+{
+    let skip = ahead(layout, j);
+    if list.len() < skip {
+        return StepRead::Refused;
+    }
+    if (list.len() - skip) / 6 <= j {
+        return StepRead::Refused;
+    }
+    read_at(list, skip + 6 * j)
+}
+
+// The first of `count` steps that is none of the allowed, or `count`.
+pub fn first_bad_step(list: &[u8], layout: Layout, count: usize) -> usize
+    ensures { λ r. ⌜ r ≡ firstBadStep layout (now (list .entry)) count ⌝ }
+{
+    let mut j = 0;
+    while j < count {
+        let StepRead::Good(_) = step_at(list, layout, j) else {
+            return j;
+        };
+        j += 1;
+    }
+    j
+}
+
+// A file checked: 8, then 6 over all blocks, then 7; else its number of steps.
+pub fn check_file(file: &[u8]) -> Checked
+    ensures { λ r. ⌜ r ≡ checked (now (file .entry)) ⌝ }
+    ensures { λ r. ⌜ ofChecked r ≡ fileTable (now (file .entry)) ⌝ }
+{
+    if !is_whole(file.len(), 512, 12) {
+        return Checked::Refused(Refusal::Length);
+    }
+    let k = first_bad_block(file);
+    if k < file.len() / 512 {
+        return Checked::Refused(Refusal::Block(k));
+    }
+    let m = step_count(file);
+    let j = first_bad_step(file, Layout::Blocks, m);
+    if j < m {
+        return Checked::Refused(Refusal::Step(j));
+    }
+    Checked::Accepted(m)
+}
+
+// The reader's work: what it answers at step `at`. A refusal goes straight out.
+pub fn next_at(file: &[u8], at: usize) -> Next
+    ensures { λ r. ⌜ r ≡ nextOf (now (file .entry)) at ⌝ }
+{
+    if step_count(file) <= at {
+        return Next::End;
+    }
+    let StepRead::Good(step) = step_at(file, Layout::Blocks, at) else {
+        return Next::Refused(Refusal::Step(at));
+    };
+    Next::Found(step)
+}
+
+impl Position {
+    // At the first step.
+    pub fn start() -> Self
+        ensures { λ r. ⌜ r .at ≡ 0 ⌝ }
+    {
+        Position { at: 0 }
+    }
+
+    // The answer here, and the position after it: past a step that was handed out, and else the same.
+    pub fn turn(self, file: &[u8]) -> Turn
+        ensures { λ r. ⌜ r ≡ turned (now (file .entry)) (self .at) ⌝ }
+    {
+        let at = self.at;
+        let next = next_at(file, at);
+        let Next::Found(_) = next else {
+            return Turn {
+                next,
+                place: Position { at },
+            };
+        };
+        Turn {
+            next,
+            place: Position { at: at + 1 },
+        }
+    }
+}

@@ -1,0 +1,66 @@
+-- A step of a script: what a legal step is, the six bytes of a step, and what reading six bytes finds
+-- (document 01, Scripts). `legal` is the one definition of a legal step, for the reader and the writer;
+-- `names` is the part of it that says which group and index a step may name. That reading and writing
+-- undo each other is proofs/Codec.
+use Prim.Native.Nat.{ℕ}
+use mathlib.Core.List.{List, [], _∷_}
+use mathlib.Core.Bool.{Bool, true, false, cond, _&&_, _||_}
+use lib.Dec.{ltb, eqb}
+use lib.Bits.{bitAnd}
+use lib.ListN.{length, getD, take, drop}
+use Rattle.steps.specs.declared.Step.{Step}
+use Rattle.steps.specs.declared.Step.the-variants.{Set, Field, Colour}
+use Rattle.steps.specs.declared.StepRead.{StepRead}
+use Rattle.steps.specs.declared.StepRead.the-variants.{Good, Refused}
+
+-- "Groups are 0 to 7; for 6 and 7 the index is 0."
+abbrev pub names : ℕ → ℕ → Bool
+names group index = ltb group 6 || (ltb group 8 && eqb index 0)
+
+-- "value has no bit outside mask"
+abbrev pub within : ℕ → ℕ → Bool
+within value mask = eqb (bitAnd value mask) value
+
+-- a legal step
+unfoldable pub legal : Step → Bool
+legal (Set group index value) = names group index
+legal (Field group index value mask) = names group index && within value mask
+legal (Colour entry red green blue) = true
+
+-- "SET: 1, group, index, value, 0, 0. FIELD: 2, group, index, value, mask, 0. COLOUR: 3, entry, red, green, blue, 0."
+unfoldable pub bytesOf : Step → List ℕ
+bytesOf (Set group index value) = 1 ∷ group ∷ index ∷ value ∷ 0 ∷ 0 ∷ []
+bytesOf (Field group index value mask) = 2 ∷ group ∷ index ∷ value ∷ mask ∷ 0 ∷ []
+bytesOf (Colour entry red green blue) = 3 ∷ entry ∷ red ∷ green ∷ blue ∷ 0 ∷ []
+
+-- six bytes by their kind, with the bytes that have to be 0
+unfoldable pub shaped : ℕ → ℕ → ℕ → ℕ → ℕ → ℕ → StepRead
+shaped a b c d e f =
+    cond (eqb a 1 && eqb e 0 && eqb f 0) (Good (Set b c d))
+    (cond (eqb a 2 && eqb f 0) (Good (Field b c d e))
+    (cond (eqb a 3 && eqb f 0) (Good (Colour b c d e)) Refused))
+
+-- "A step read is one of three kinds, and otherwise a refusal"
+abbrev pub ifLegal : StepRead → StepRead
+ifLegal (Good s) = cond (legal s) (Good s) Refused
+ifLegal Refused = Refused
+
+-- bytes read as a step: six of them
+unfoldable pub stepOf : List ℕ → StepRead
+stepOf l =
+    cond (eqb (length l) 6)
+    (ifLegal (shaped (getD l 0 0) (getD l 1 0) (getD l 2 0) (getD l 3 0) (getD l 4 0) (getD l 5 0))) Refused
+
+-- the step that stands at a place of a list of bytes
+abbrev pub readAt : List ℕ → ℕ → StepRead
+readAt list place = stepOf (take 6 (drop place list))
+
+abbrev pub isGood : StepRead → Bool
+isGood (Good s) = true
+isGood Refused = false
+
+-- the number of document 01 for each answer; its value, the step number, is where the six bytes stand,
+-- and is given by those that know the place
+abbrev pub numberOf : StepRead → ℕ
+numberOf (Good s) = 0
+numberOf Refused = 7
