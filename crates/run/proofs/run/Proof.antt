@@ -1,0 +1,53 @@
+-- The loop's invariant: what is still to come from here is the whole run. Each way out is a turn of that law.
+use Prim.Native.Nat.{_+_, _-_, _%_, _≤_, _<_}
+use mathlib.Core.Path.{_≡_, refl, sym, _∙_}
+use lib.ListN.{length, drop}
+use Rattle.run.specs.Run.{runFrom, reads, ran}
+use Rattle.run.proofs.Turns.{finished, limited, turned, halted, whole, uneven}
+use borrow.Author.Needs.{needs}
+use native.Mathlib.Omega.{arith}
+use Rattle.run.proofs.run.Statement.{statement}
+use Rattle.run.proofs.run.Tie as tie
+
+abbrev Inv-loop : tie.InvT-loop
+Inv-loop commands limit size chip₀ acc₀ place₀ at₀ chip acc place at =
+    (runFrom chip acc place (limit - place) (reads (drop at commands)) ≡ ran chip₀ commands limit)
+    × (length commands % 4 ≡ 0) × (at % 4 ≡ 0) × (at ≤ length commands) × (place ≤ limit) × (size ≡ length commands)
+
+abbrev μ-loop : tie.MeasureT-loop
+μ-loop commands limit size chip₀ acc₀ place₀ at₀ chip acc place at = length commands - at
+
+pub run-spec : {M : Type 1} → statement M
+run-spec =
+    tie.close
+    (tie.spec
+    Inv-loop
+    μ-loop
+    (λ c. uneven _ _ _ (c .if1 .taken))
+    (λ c. (whole (c .before .before .args .chip) (c .before .before .args .commands .now) (c .before .before .args .limit) (c .if1 .left), c .if1 .left, refl, omega arith, omega arith, refl))
+    (λ c. let i = c .before .before .loop .inv in
+    let room : c .before .before .loop .at + 3 < length (c .before .before .before .before .before .args .commands .now) = omega arith in
+    limited (c .before .before .loop .chip) (c .before .before .loop .acc) (c .before .before .loop .place) (c .before .before .before .before .before .args .limit) (c .before .before .before .before .before .args .commands .now) (c .before .before .loop .at) room (c .if2 .taken) ∙ i .0)
+    (λ c. omega arith)
+    (λ c. omega arith)
+    (λ c. omega arith)
+    (λ c. omega arith)
+    (λ c. omega arith)
+    (λ c. omega arith)
+    (λ c. omega arith)
+    (λ c κs. search needs)
+    (λ c. search needs)
+    (λ c. let i = c .before .before .before .before .before .before .before .before .before .before .loop .inv in
+    let room : c .before .before .before .before .before .before .before .before .before .before .loop .at + 3 < length (c .before .before .before .before .before .before .before .before .before .before .before .before .before .args .commands .now) = omega arith in
+    let below : c .before .before .before .before .before .before .before .before .before .before .loop .place < c .before .before .before .before .before .before .before .before .before .before .before .before .before .args .limit = omega arith in
+    halted (c .before .before .before .before .before .before .before .before .before .before .loop .chip) (c .before .before .before .before .before .before .before .before .before .before .loop .acc) (c .before .before .before .before .before .before .before .before .before .before .loop .place) (c .before .before .before .before .before .before .before .before .before .before .before .before .before .args .limit) (c .before .before .before .before .before .before .before .before .before .before .before .before .before .args .commands .now) (c .before .before .before .before .before .before .before .before .before .before .loop .at) room below (c .before .before .before .command .result) (c .before .before .before .command .ensures) _ (c .before .v .given .1) ∙ i .0)
+    (λ c. search needs)
+    (λ c. omega arith)
+    (λ c. omega arith)
+    (λ c. omega arith)
+    (λ c. let i = c .before .before .before .before .before .before .before .before .before .before .loop .inv in
+    let room : c .before .before .before .before .before .before .before .before .before .before .loop .at + 3 < length (c .before .before .before .before .before .before .before .before .before .before .before .before .before .args .commands .now) = omega arith in
+    let below : c .before .before .before .before .before .before .before .before .before .before .loop .place < c .before .before .before .before .before .before .before .before .before .before .before .before .before .args .limit = omega arith in
+    (turned (c .before .before .before .before .before .before .before .before .before .before .loop .chip) (c .before .before .before .before .before .before .before .before .before .before .loop .acc) (c .before .before .before .before .before .before .before .before .before .before .loop .place) (c .before .before .before .before .before .before .before .before .before .before .before .before .before .args .limit) (c .before .before .before .before .before .before .before .before .before .before .before .before .before .args .commands .now) (c .before .before .before .before .before .before .before .before .before .before .loop .at) room below (c .before .before .before .command .result) (c .before .before .before .command .ensures) (c .before .enum-told .given .1) ∙ i .0, i .1, omega arith, omega arith, omega arith, i .5))
+    (λ c. let i = c .before .loop .inv in
+    finished (c .before .loop .chip) (c .before .loop .acc) (c .before .loop .place) (c .before .before .before .before .args .limit) (c .before .before .before .before .args .commands .now) (c .before .loop .at) (omega arith) ∙ i .0))

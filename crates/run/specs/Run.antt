@@ -1,0 +1,95 @@
+-- The run of commands. Document 01, "Commands": the accumulator starts at 0; for each command 10 comes before 2 and 2 before 1, and
+-- MERGE is no port access; a limit met at a bad command counts first; with every command done it is the end. A stopped run
+-- hands back the state that its earlier commands left. Its laws are in proofs/RunLaws.
+use Prim.Native.Nat.{ℕ, zero, suc, _+_, _%_}
+use mathlib.Core.Bool.{cond}
+use mathlib.Core.List.{List, [], _∷_}
+use lib.Dec.{eqb}
+use lib.ListN.{length}
+use lib.Bits.{bitAnd, bitOr}
+use Rattle.chip.specs.Access.{portWritten, portRead}
+use Rattle.chip.specs.declared.Chip.{Chip}
+use Rattle.chip.specs.declared.access.Answer.{Answer}
+use Rattle.chip.specs.declared.access.Answer.the-variants.{Done as Granted, Unlisted as NoPort, Closed as Shut}
+use Rattle.chip.specs.declared.access.Wrote.{Wrote}
+use Rattle.chip.specs.declared.access.Seen.{Seen}
+use Rattle.commands.specs.Command.{commandOf}
+use Rattle.commands.specs.declared.Command.{Command}
+use Rattle.commands.specs.declared.Command.the-variants.{Out, In, Merge, OutAcc}
+use Rattle.commands.specs.declared.CommandRead.{CommandRead}
+use Rattle.commands.specs.declared.CommandRead.the-variants.{Known, Unknown}
+use Rattle.script.specs.Numbers.{Returned, returned}
+use Rattle.run.specs.declared.Reason.{Reason}
+use Rattle.run.specs.declared.Reason.the-variants.{Form, Closed, Unlisted}
+use Rattle.run.specs.declared.Verdict.{Verdict}
+use Rattle.run.specs.declared.Verdict.the-variants.{Done, Bad}
+use Rattle.run.specs.declared.Ending.{Ending}
+use Rattle.run.specs.declared.Ending.the-variants.{Ended, AtLimit, Stopped}
+use Rattle.run.specs.declared.Did.{Did}
+use Rattle.run.specs.declared.Ran.{Ran}
+
+-- a port access's answer as a verdict on its command
+abbrev pub answered : Answer → Verdict
+answered Granted = Done
+answered NoPort = Bad Unlisted
+answered Shut = Bad Closed
+
+abbrev pub did : Verdict → ℕ → Chip → Did
+did v acc c = record { verdict = v; acc = acc; chip = c }
+
+abbrev pub afterWrite : ℕ → Wrote → Did
+afterWrite acc w = did (answered (w .answer)) acc (w .chip)
+
+abbrev pub afterRead : Seen → Did
+afterRead s = did (answered (s .answer)) (s .value) (s .chip)
+
+-- a command of a known form: "accumulator AND keep, OR set"
+unfoldable pub done : Chip → ℕ → Command → Did
+done c acc (Out port value) = afterWrite acc (portWritten c port value)
+done c acc (In port) = afterRead (portRead c port)
+done c acc (Merge keep set) = did Done (bitOr (bitAnd acc keep) set) c
+done c acc (OutAcc port) = afterWrite acc (portWritten c port acc)
+
+-- what four bytes were read as, as a command
+unfoldable pub one : Chip → ℕ → CommandRead → Did
+one c acc (Known x) = done c acc x
+one c acc Unknown = did (Bad Form) acc c
+
+abbrev pub ranTo : Chip → ℕ → Ending → Ran
+ranTo c k e = record { chip = c; count = k; ending = e }
+
+-- what follows a verdict: x where the command was done, or f of the reason
+abbrev pub following : Verdict → Ran → (Reason → Ran) → Ran
+following Done x f = x
+following (Bad why) x f = f why
+
+-- a run from place k on, with so many commands left to the limit
+unfoldable pub runFrom : Chip → ℕ → ℕ → ℕ → List CommandRead → Ran
+runFrom c acc k left [] = ranTo c k Ended
+runFrom c acc k zero (r ∷ rs) = ranTo c k AtLimit
+runFrom c acc k (suc left) (r ∷ rs) =
+    let d = one c acc r in
+    following (d .verdict) (runFrom (d .chip) (d .acc) (k + 1) left rs) (λ why. ranTo c k (Stopped k why))
+
+-- bytes as commands, four to each
+unfoldable pub reads : List ℕ → List CommandRead
+reads [] = []
+reads (a ∷ []) = []
+reads (a ∷ b ∷ []) = []
+reads (a ∷ b ∷ c ∷ []) = []
+reads (a ∷ b ∷ c ∷ d ∷ l) = commandOf a b c d ∷ reads l
+
+-- the run of command bytes: a length that is no multiple of 4 is refused before any runs
+unfoldable pub ran : Chip → List ℕ → ℕ → Ran
+ran c bytes limit = cond (eqb (length bytes % 4) 0) (runFrom c 0 0 limit (reads bytes)) (ranTo c 0 (Stopped 0 Form))
+
+-- document 01's number of a reason, and the number and value of an ending: a refusal's place; the end and the limit are 0
+abbrev pub numberOf : Reason → ℕ
+numberOf Form = 10
+numberOf Closed = 2
+numberOf Unlisted = 1
+
+abbrev pub ofEnding : Ending → Returned
+ofEnding Ended = returned 0 0
+ofEnding AtLimit = returned 0 0
+ofEnding (Stopped place why) = returned (numberOf why) place
