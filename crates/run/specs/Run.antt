@@ -71,6 +71,24 @@ runFrom c acc k (suc left) (r ∷ rs) =
     let d = one c acc r in
     following (d .verdict) (runFrom (d .chip) (d .acc) (k + 1) left rs) (λ why. ranTo c k (Stopped k why))
 
+-- all the commands, up to the first that is refused: the state and the accumulator that they leave
+abbrev pub afterDone : Verdict → Did → Did → Did
+afterDone Done x d = x
+afterDone (Bad why) x d = d
+
+unfoldable pub carry : Chip → ℕ → List CommandRead → Did
+carry c acc [] = did Done acc c
+carry c acc (r ∷ rs) = let d = one c acc r in afterDone (d .verdict) (carry (d .chip) (d .acc) rs) d
+
+-- how many commands come before the first that is refused; all, where none is
+abbrev pub more : Verdict → ℕ → ℕ
+more Done n = suc n
+more (Bad why) n = 0
+
+unfoldable pub carried : Chip → ℕ → List CommandRead → ℕ
+carried c acc [] = 0
+carried c acc (r ∷ rs) = let d = one c acc r in more (d .verdict) (carried (d .chip) (d .acc) rs)
+
 -- bytes as commands, four to each
 unfoldable pub reads : List ℕ → List CommandRead
 reads [] = []
