@@ -14,7 +14,8 @@ use Rattle.commands.specs.declared.Command.{Command}
 use Rattle.commands.specs.declared.Command.the-variants.{Out, In, Merge, OutAcc}
 use Rattle.commands.specs.declared.CommandRead.{CommandRead}
 use Rattle.commands.specs.declared.CommandRead.the-variants.{Known, Unknown}
-use Rattle.run.specs.Run.{did, one, following, ranTo, runFrom, afterDone, carry, more, carried, reads, ran}
+use Rattle.script.specs.Numbers.{returned}
+use Rattle.run.specs.Run.{did, one, following, ranTo, runFrom, afterDone, carry, more, carried, reads, ran, ofEnding}
 use Rattle.run.specs.declared.Did.{Did}
 use Rattle.run.specs.declared.Ran.{Ran}
 use Rattle.run.specs.declared.Reason.{Reason}
@@ -92,10 +93,15 @@ run-append (x ∷ xs) ys c d a b k n m left hn hm h =
     go t (Bad why) e f g = absurd (different why (sym e ∙ ap (λ (u : Did). u .verdict) g))
 
 -- a run at its limit stands where it is
-pub at-limit : (c : Chip) (acc k : ℕ) (rs : List CommandRead) → (runFrom c acc k 0 rs .chip ≡ c) × (runFrom c acc k 0 rs .count ≡ k)
+pub record Stands (r : Ran) (c : Chip) (k : ℕ) : Type 0 where
+  pub chip : r .chip ≡ c
+  pub count : r .count ≡ k
+  pub unrefused : ofEnding (r .ending) ≡ returned 0 0
+
+pub at-limit : (c : Chip) (acc k : ℕ) (rs : List CommandRead) → Stands (runFrom c acc k 0 rs) c k
 unfolding runFrom
-at-limit c acc k [] = (refl, refl)
-at-limit c acc k (r ∷ rs) = (refl, refl)
+at-limit c acc k [] = record { chip = refl; count = refl; unrefused = refl }
+at-limit c acc k (r ∷ rs) = record { chip = refl; count = refl; unrefused = refl }
 
 -- a larger limit extends the shorter run: from the state that the first commands left, as far as they were carried out
 pub run-longer : (rs : List CommandRead) (c d : Chip) (b l m : ℕ) → l ≤ length rs → carry c 0 (take l rs) ≡ did Done b d
@@ -105,7 +111,7 @@ run-longer rs c d b l m room h =
     let len : length (take l rs) ≡ l = length-take-le l rs room in
     let shorter : runFrom c 0 0 l rs ≡ runFrom d b l 0 (drop l rs) =
     ap (runFrom c 0 0 l) split ∙ run-append (take l rs) (drop l rs) c d 0 b 0 l l 0 (omega arith) (omega arith) h in (
-      ap (λ (r : Ran). r .chip) shorter ∙ at-limit d b l (drop l rs) .0,
+      ap (λ (r : Ran). r .chip) shorter ∙ at-limit d b l (drop l rs) .chip,
       ap (runFrom c 0 0 (l + m)) split ∙ run-append (take l rs) (drop l rs) c d 0 b 0 l (l + m) m (omega arith) (omega arith) h,
     )
 

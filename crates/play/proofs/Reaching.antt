@@ -1,0 +1,84 @@
+-- The facts of each group that the argument rests on: where its ports lead, that a selected index is the one that its data port works
+-- at, and that no write by name closes the ports. A new group adds its facts here; the argument in StepsSent goes by the way
+-- a group is reached and stays.
+use Prim.Native.Nat.{ℕ, zero, suc, _<_}
+use native.Mathlib.Omega.{arith}
+use mathlib.Core.Bool.{Bool, true, false, cond, _&&_, _||_}
+use mathlib.Core.Path.{_≡_, refl, _∙_, ap, sym}
+use lib.Dec.{eqb}
+use borrow.Author.Tests.{eqb-true, le-ltb}
+use Rattle.registers.specs.Bits.{bit, isSet}
+use Rattle.registers.specs.Extension.{XR}
+use Rattle.registers.specs.Groups.{rowOf, writableOf}
+use Rattle.registers.proofs.WriteLaws.{locked-fewer}
+use Rattle.registers.specs.declared.Group.{Group}
+use Rattle.registers.specs.declared.Group.the-variants.{Cr, Sr, Gr, Xr, Fr, Mr, Msr, Palmask}
+use Rattle.ports.specs.Ports.{ports, target}
+use Rattle.ports.specs.declared.Target.the-variants.{Index, Data, NotPicked}
+use Rattle.chip.specs.State.{Named, indexOf, withIndex}
+use Rattle.chip.specs.Names.{register, locked, received, portsOpen, colour}
+use Rattle.chip.specs.Palette.{coloured}
+use Rattle.chip.proofs.NameLaws.{received-keeps-bit, coloured-keeps-register}
+use Rattle.chip.specs.declared.Indexes.{Indexes}
+use Rattle.steps.specs.Step.{names}
+use Rattle.commands.specs.Expansion.{ways}
+use Rattle.commands.specs.declared.Ways.{Ways}
+use Rattle.commands.specs.declared.Ways.the-variants.{Pair, Pairs, Direct, Nowhere}
+use Rattle.play.specs.ByName.{groupAt}
+
+-- an index port and a data port that lead to a group while MSR bit 0 is b, and a pair that is not picked
+abbrev pub On : Bool → Group → ℕ → ℕ → Type 0
+On b g x p = (target b true x ≡ Index g) × (target b true p ≡ Data g) × (target b false p ≡ Data g)
+
+abbrev pub Off : Bool → ℕ → ℕ → Type 0
+Off b x p = (target b true x ≡ NotPicked) × (target b true p ≡ NotPicked) × (target b false p ≡ NotPicked)
+
+-- a write to the group leaves MSR bit 0
+abbrev pub Steady : Group → Type 0
+Steady g = (n : Named) (i v : ℕ) → colour (received g n i v) ≡ colour n
+
+-- the way of a group leads to it
+abbrev pub Leads : Bool → Group → ℕ → Ways → Type 0
+Leads b g i (Pair x p) = On b g x p × ((y : Indexes) → indexOf g (withIndex g y i) ≡ i)
+Leads true g i (Pairs x p y q) = Off true x p × On true g y q × Steady g × ((z : Indexes) → indexOf g (withIndex g z i) ≡ i)
+Leads false g i (Pairs x p y q) = On false g x p × Off false y q × Steady g × ((z : Indexes) → indexOf g (withIndex g z i) ≡ i)
+Leads b g i (Direct w r) = (target b true w ≡ Data g) × (target b false r ≡ Data g) × ((y : Indexes) → indexOf g y ≡ i)
+Leads b g i Nowhere = ⊥
+
+CR-steady : Steady Cr
+unfolding colour received
+CR-steady n i v = refl
+
+false-true : false ≡ true → ⊥
+false-true h = let z : _≡_ {A = ℕ} 0 1 = cc in omega arith
+
+-- the eight groups, each by its number
+pub leads : (b : Bool) (group i : ℕ) → names group i ≡ true → Leads b (groupAt group) i (ways group)
+unfolding target ports ways groupAt
+leads true zero i h = ((refl, refl, refl), (refl, refl, refl), CR-steady, λ z. refl)
+leads false zero i h = ((refl, refl, refl), (refl, refl, refl), CR-steady, λ z. refl)
+leads b (suc zero) i h = ((refl, refl, refl), λ y. refl)
+leads b (suc (suc zero)) i h = ((refl, refl, refl), λ y. refl)
+leads b (suc (suc (suc zero))) i h = ((refl, refl, refl), λ y. refl)
+leads b (suc (suc (suc (suc zero)))) i h = ((refl, refl, refl), λ y. refl)
+leads b (suc (suc (suc (suc (suc zero))))) i h = ((refl, refl, refl), λ y. refl)
+leads b (suc (suc (suc (suc (suc (suc zero)))))) i h = (refl, refl, λ y. sym (eqb-true i 0 h))
+leads b (suc (suc (suc (suc (suc (suc (suc zero))))))) i h = (refl, refl, λ y. sym (eqb-true i 0 h))
+leads b (suc (suc (suc (suc (suc (suc (suc (suc group)))))))) i h =
+    let k : ℕ = suc (suc (suc (suc (suc (suc (suc (suc group))))))) in
+    absurd (false-true (rw (le-ltb k 6 (omega arith), le-ltb k 8 (omega arith)) at h))
+
+-- ---- the ports stay open
+XR70-fixed : writableOf Xr 0x70 ≡ 0x00
+unfolding rowOf XR
+XR70-fixed = refl
+
+pub open-received : (g : Group) (n : Named) (i v : ℕ) → portsOpen (received g n i v) ≡ portsOpen n
+unfolding portsOpen
+open-received g n i v =
+    ap (λ (b : ℕ). eqb b 1)
+    (received-keeps-bit 1 g Xr n i v 0x70 (omega arith) (locked-fewer 1 Xr (locked Xr n) 0x70 (ap (bit 1) XR70-fixed)))
+
+pub open-coloured : (n : Named) (e r g b : ℕ) → portsOpen (coloured n e r g b) ≡ portsOpen n
+unfolding portsOpen
+open-coloured n e r g b = ap (isSet 1) (coloured-keeps-register Xr n e r g b 0x70)

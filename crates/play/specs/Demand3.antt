@@ -1,0 +1,37 @@
+-- Demand 3, to read: a script does what it says, from any state. The definitions under it are those that the contracts cite:
+-- `checked` of the check, `commandsTo` of the translation, `ran` of the run, `Reach` of the chip, `appliedAll` of ByName.
+-- The theorem that says it of every script and every reachable state is `demand-3`, in proofs/Demand3.
+use Prim.Native.Nat.{ℕ, _≤_}
+use mathlib.Core.Path.{_≡_}
+use mathlib.Core.Bool.{true}
+use mathlib.Core.List.{List}
+use Rattle.registers.specs.Bits.{isSet}
+use Rattle.chip.specs.State.{named}
+use Rattle.chip.specs.Reach.{Reach}
+use Rattle.chip.specs.declared.Chip.{Chip}
+use Rattle.script.specs.File.{checked}
+use Rattle.script.specs.Numbers.{returned}
+use Rattle.script.specs.declared.Checked.the-variants.{Accepted}
+use Rattle.commands.specs.Command.{bytesOfAll}
+use Rattle.commands.specs.Translation.{stepsTo, commandsTo, begins}
+use Rattle.run.specs.Run.{ran, ofEnding}
+use Rattle.run.specs.declared.Ran.{Ran}
+use Rattle.play.specs.ByName.{appliedAll}
+
+-- the run of a file's translated commands up to those of its first n steps; m is the number of its steps
+abbrev pub ranSteps : Chip → List ℕ → ℕ → ℕ → Ran
+ranSteps c file m n = ran c (bytesOfAll (commandsTo file m)) (begins file n)
+
+-- after the commands of the first n steps: all of them were carried out, none was refused, and everything that has a name,
+-- every register of every group, MSR, PALMASK and all 256 colours, is what the n steps say by name. The indexes and the
+-- palette's loading state are not in `Named`: they may differ.
+pub record AfterSteps (c : Chip) (file : List ℕ) (m n : ℕ) : Type 0 where
+  pub count : ranSteps c file m n .count ≡ begins file n
+  pub unrefused : ofEnding (ranSteps c file m n .ending) ≡ returned 0 0
+  pub byName : named (ranSteps c file m n .chip) ≡ appliedAll (stepsTo file n) (named c)
+
+-- for every accepted file, every state that accesses reach from a reset with CFG1 = 1, and every number of its steps
+pub record Demand-3 : Type 0 where
+  pub holds : (file : List ℕ) (m : ℕ) → checked file ≡ Accepted m
+      → (first second : ℕ) → isSet 1 first ≡ true → (c : Chip) → Reach first second c
+      → (n : ℕ) → n ≤ m → AfterSteps c file m n

@@ -1,0 +1,3 @@
+pub mod ByName
+pub mod Demand3
+pub mod Played

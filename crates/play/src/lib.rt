@@ -1,0 +1,48 @@
+// A script file played on a chip: translated into a lent buffer and run whole. Demand 3 is said in
+// specs/Demand3 and proved in proofs/Demand3; the entry here carries it.
+ghost use mathlib.Core.Path.{_≡_};
+ghost use lib.ListN.{length};
+ghost use Rattle.commands.specs.Translation.{translated, leftBy};
+ghost use Rattle.play.specs.Played.{played, ByName};
+use chip::Chip;
+use commands::Translated;
+use commands::translate;
+use run::Ending;
+use run::run;
+use script::Refusal;
+
+// What became of a script: it was refused, or its commands were run, so many of them, to this ending.
+pub enum Outcome {
+    NotPlayed(Refusal),
+    Played(usize, Ending),
+}
+
+// The state after a script, and what became of it.
+pub struct Performance {
+    pub chip: Chip,
+    pub outcome: Outcome,
+}
+
+// A script file on a chip. The buffer is lent for the commands, 32 bytes a step.
+pub fn play(chip: Chip, file: &[u8], buffer: &mut [u8]) -> Performance
+    ensures { λ r. ⌜ r ≡ played chip (now (file .entry)) (length (now (buffer .entry))) ⌝ }
+    ensures { λ r. ⌜ ByName chip (now (file .entry)) (length (now (buffer .entry))) r ⌝ }
+    ensures { λ _. ⌜ now (buffer .exit) ≡ leftBy (translated (now (file .entry)) (length (now (buffer .entry)))) (now (file .entry)) (now (buffer .entry)) ⌝ }
+{
+    match translate(file, buffer) {
+        Translated::Refused(why) => Performance {
+            chip,
+            outcome: Outcome::NotPlayed(why),
+        },
+        Translated::Commands(k) => {
+            let end = 4 * k;
+            let ran = run(chip, &buffer[..end], k);
+            let next = ran.chip;
+            let ending = ran.ending;
+            Performance {
+                chip: next,
+                outcome: Outcome::Played(ran.count, ending),
+            }
+        }
+    }
+}
