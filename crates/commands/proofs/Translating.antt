@@ -7,19 +7,20 @@ use mathlib.Core.Path.{_≡_, refl, sym, ap, _∙_}
 use mathlib.Core.List.{List, [], _∷_, _++_}
 use lib.Dec.{ltb}
 use lib.ListN.{length}
-use borrow.Author.Tests.{lt-ltb, le-ltb}
+use borrow.Author.Tests.{lt-ltb, le-ltb, ltb-false}
 use Rattle.lists.specs.Put.{put}
 use Rattle.steps.specs.declared.Step.{Step}
 use Rattle.script.specs.File.{stepCount, checked}
 use Rattle.script.specs.Reader.{nextOf}
-use Rattle.script.specs.declared.Checked.the-variants.{Accepted}
+use Rattle.script.specs.declared.Checked.{Checked}
+use Rattle.script.specs.declared.Checked.the-variants.{Accepted, Refused as NotAccepted}
 use Rattle.script.specs.declared.Next.{Next}
 use Rattle.script.specs.declared.Next.the-variants.{Found}
 use Rattle.script.specs.declared.Refusal.the-variants.{Room}
 use Rattle.script.proofs.Checking.{Legal, answer-says}
 use Rattle.commands.specs.Command.{bytesOfAll}
 use Rattle.commands.specs.Expansion.{expanded, commandsOf}
-use Rattle.commands.specs.Translation.{stepsTo, commandsTo, begins, Sent, translated, leftBy}
+use Rattle.commands.specs.Translation.{stepsTo, commandsTo, begins, Sent, ifRoom, translated, leftBy}
 use Rattle.commands.specs.declared.Translated.the-variants.{Commands, Refused}
 use Rattle.commands.proofs.Sending.{sent-append, sent-none}
 use Rattle.commands.proofs.Expanding.{commands-next}
@@ -48,3 +49,24 @@ module _ (f o : List ℕ) (m : ℕ) (acc : checked f ≡ Accepted m) where
         let k : e / 4 ≡ begins f m = omega (arith, s .next) in
         let l : Legal f m = answer-says f acc in
         (rw (acc, le-ltb _ _ enough-room, k) refl, s .bytes ∙ ap (λ (n : ℕ). put o 0 (bytesOfAll (commandsTo f n))) (sym (l .count)))
+
+-- what an answer of the translation says of the file
+pub record Translates (f : List ℕ) (room k : ℕ) : Type 0 where
+  pub steps : ℕ
+  pub accepted : checked f ≡ Accepted steps
+  pub counted : stepCount f ≡ steps
+  pub commands : k ≡ begins f steps
+  pub fits : 32 * steps ≤ room
+
+pub translated-says : (f : List ℕ) (room k : ℕ) → translated f room ≡ Commands k → Translates f room k
+unfolding translated
+translated-says f room k is = go (checked f) refl is
+  where
+    roomy : (m : ℕ) → checked f ≡ Accepted m → (z : Bool) → ltb room (32 * m) ≡ z → cond z (Refused Room) (Commands (begins f m)) ≡ Commands k → Translates f room k
+    roomy m acc true e h = absurd (let z : _≡_ {A = ℕ} 0 1 = cc in omega arith)
+    roomy m acc false e h = let l : Legal f m = answer-says f acc in
+        record { steps = m; accepted = acc; counted = l .count; commands = cc; fits = ltb-false _ _ e }
+
+    go : (r : Checked) → checked f ≡ r → ifRoom r f room ≡ Commands k → Translates f room k
+    go (Accepted m) acc h = roomy m acc (ltb room (32 * m)) refl h
+    go (NotAccepted why) acc h = absurd (let z : _≡_ {A = ℕ} 0 1 = cc in omega arith)

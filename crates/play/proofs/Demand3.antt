@@ -112,6 +112,20 @@ module _ (f : List ℕ) (m : ℕ) (acc : checked f ≡ Accepted m) (c : Chip) (f
       let (x, l, s) = stands n room in
       record { count = s .count; unrefused = s .unrefused; byName = ap named (s .chip) }
 
+  -- the run of all its commands ends
+  pub whole-run : (x : Indexes) × (l : Loading)
+      × (ran c (bytesOfAll (commandsTo f m)) (begins f m) ≡ ranTo (join (appliedAll (stepsTo f m) (named c)) x l) (begins f m) Ended)
+  unfolding runFrom
+  whole-run =
+      let cs = commandsTo f m in
+      let (x, l, a, h, _) = script-sent (stepsTo f m) (named c) (steps-legal f m acc m (omega arith)) free .runs (c .indexes) (c .loading) 0 tt in
+      let k : length (knowns cs) ≡ begins f m = length-knowns cs in (
+        x,
+        l,
+        run-commands c cs (begins f m) ∙ ap (runFrom c 0 0 (begins f m)) (sym (append-nil (knowns cs)))
+            ∙ run-append (knowns cs) [] c (join (appliedAll (stepsTo f m) (named c)) x l) 0 a 0 (begins f m) (begins f m) 0 (omega arith) (omega arith) h,
+      )
+
 -- ---- the theorem
 pub demand-3 : Demand-3
 demand-3 = record { holds = λ file m acc first second strapped c reach n room. after-steps file m acc c (ports-stay reach ∙ strapped) n room }

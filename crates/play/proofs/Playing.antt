@@ -1,0 +1,125 @@
+-- The entry: the bytes that are run are those of the translation, and what the run gives means by name what `ByName` says.
+use Prim.Native.Nat.{ℕ, zero, suc, _+_, _*_, _≤_, _<_}
+use native.Mathlib.Omega.{arith}
+use mathlib.Core.Bool.{Bool, true, false}
+use mathlib.Core.Path.{_≡_, refl, _∙_, ap, sym}
+use mathlib.Core.List.{List, [], _∷_, _++_, append-assoc}
+use lib.ListN.{length, take, drop, length-append}
+use lib.Seq.{take-at}
+use Rattle.lists.specs.Put.{put}
+use Rattle.lists.proofs.Put.{length-put}
+use Rattle.chip.specs.State.{named}
+use Rattle.chip.specs.Names.{portsOpen}
+use Rattle.chip.specs.declared.Chip.{Chip}
+use Rattle.steps.specs.declared.Step.{Step}
+use Rattle.script.specs.File.{stepCount, checked}
+use Rattle.script.specs.Reader.{nextOf}
+use Rattle.script.proofs.Counting.{accepted-few}
+use Rattle.script.proofs.Reading.{accepted-handed}
+use Rattle.script.specs.declared.Checked.the-variants.{Accepted}
+use Rattle.script.specs.declared.Refusal.{Refusal}
+use Rattle.commands.specs.Command.{bytesOfAll}
+use Rattle.commands.specs.Translation.{handed, stepsTo, commandsTo, begins, translated, leftBy}
+use Rattle.commands.proofs.Codec.{length-bytes}
+use Rattle.commands.proofs.Expanding.{begins-most}
+use Rattle.commands.proofs.Translating.{Translates, translated-says}
+use Rattle.commands.specs.declared.Translated.{Translated}
+use Rattle.commands.specs.declared.Translated.the-variants.{Commands, Refused}
+use Rattle.run.specs.Run.{ran, ranTo}
+use Rattle.run.proofs.RunLaws.{knowns, run-commands}
+use Rattle.run.specs.declared.Ran.{Ran}
+use Rattle.run.specs.declared.Ending.the-variants.{Ended, Stopped}
+use Rattle.run.specs.declared.Reason.the-variants.{Closed}
+use Rattle.play.specs.ByName.{appliedAll}
+use Rattle.play.specs.Played.{performed, afterTranslation, played, ByName}
+use Rattle.play.specs.declared.Outcome.the-variants.{NotPlayed, Played}
+use Rattle.play.specs.declared.Performance.{Performance}
+use Rattle.play.proofs.Demand3.{AllLegal, steps-legal, whole-run}
+use Rattle.play.proofs.Closed.{steps-stop}
+
+-- the commands fit into the buffer
+pub commands-fit : (f : List ℕ) (room k : ℕ) → translated f room ≡ Commands k → 4 * k ≤ room
+commands-fit f room k is =
+    let t = translated-says f room k is in
+    let most : begins f (t .steps) ≤ 8 * t .steps = begins-most f (t .steps) in
+    let n : k ≡ begins f (t .steps) = t .commands in
+    let h : 32 * t .steps ≤ room = t .fits in
+    omega arith
+
+pub front-fits : (f o : List ℕ) (k : ℕ) {o′ : List ℕ} → translated f (length o) ≡ Commands k → o′ ≡ leftBy (Commands k) f o → 4 * k ≤ length o′
+front-fits f o k {o′} is left =
+    let t = translated-says f (length o) k is in
+    let fits : 4 * k ≤ length o = commands-fit f (length o) k is in
+    let size : length (bytesOfAll (commandsTo f (stepCount f))) ≡ 4 * k =
+    length-bytes (commandsTo f (stepCount f)) ∙ ap (λ (n : ℕ). 4 * begins f n) (t .counted) ∙ ap (λ (n : ℕ). 4 * n) (sym (t .commands)) in
+    let same : length o′ ≡ length o = ap length left ∙ length-put o (bytesOfAll (commandsTo f (stepCount f))) 0 (omega arith) in
+    omega arith
+
+-- the front of the buffer is the commands
+pub front-commands : (f o : List ℕ) (k : ℕ) {o′ : List ℕ} → translated f (length o) ≡ Commands k → o′ ≡ leftBy (Commands k) f o
+    → take (4 * k) o′ ≡ bytesOfAll (commandsTo f (stepCount f))
+front-commands f o k {o′} is left =
+    let t = translated-says f (length o) k is in
+    let bs : List ℕ = bytesOfAll (commandsTo f (stepCount f)) in
+    let size : length bs ≡ 4 * k =
+    length-bytes (commandsTo f (stepCount f)) ∙ ap (λ (n : ℕ). 4 * begins f n) (t .counted) ∙ ap (λ (n : ℕ). 4 * n) (sym (t .commands)) in
+    ap (take (4 * k)) left ∙ take-at bs (drop (0 + length bs) o) (4 * k) size
+
+-- what was run is what `played` says
+pub played-commands : (c : Chip) (f : List ℕ) (room k : ℕ) {bytes : List ℕ} {r : Ran} → translated f room ≡ Commands k
+    → bytes ≡ bytesOfAll (commandsTo f (stepCount f)) → r ≡ ran c bytes k → performed r ≡ played c f room
+unfolding played
+played-commands c f room k is same gave = rw (is, ← same, ← gave) refl
+
+pub played-refused : (c : Chip) (f : List ℕ) (room : ℕ) (why : Refusal) → translated f room ≡ Refused why
+    → _≡_ {A = Performance} (record { chip = c; outcome = NotPlayed why }) (played c f room)
+unfolding played
+played-refused c f room why is = rw is refl
+
+some-step : (f : List ℕ) (m : ℕ) → checked f ≡ Accepted m → (n : ℕ) → 0 < n → n ≤ m → 0 < length (stepsTo f n)
+unfolding stepsTo
+some-step f m acc zero some room = absurd (omega arith)
+some-step f m acc (suc n) some room =
+    let h = accepted-handed f m acc n (omega arith) in
+    rw (h .answer) (simp length-append (omega arith))
+
+same-run : (c : Chip) (f : List ℕ) (k m : ℕ) → stepCount f ≡ m → k ≡ begins f m
+    → performed (ran c (bytesOfAll (commandsTo f (stepCount f))) k) ≡ performed (ran c (bytesOfAll (commandsTo f m)) (begins f m))
+same-run c f k m e h = rw (e, h) refl
+
+module _ (c : Chip) (f : List ℕ) (room : ℕ) where
+  commands-played : (k : ℕ) → translated f room ≡ Commands k → played c f room ≡ performed (ran c (bytesOfAll (commandsTo f (stepCount f))) k)
+  commands-played k is = sym (played-commands c f room k is refl refl)
+
+  answers : (k : ℕ) → translated f room ≡ Commands k → portsOpen (named c) ≡ true
+      → (played c f room .outcome ≡ Played k Ended) × (named (played c f room .chip) ≡ appliedAll (stepsTo f (stepCount f)) (named c))
+  answers k is free =
+      let t = translated-says f room k is in
+      let (x, l, e) = whole-run f (t .steps) (t .accepted) c free in
+      let same : played c f room ≡ performed (ran c (bytesOfAll (commandsTo f (t .steps))) (begins f (t .steps))) =
+      commands-played k is ∙ same-run c f k (t .steps) (t .counted) (t .commands) in (
+        ap (λ (p : Performance). p .outcome) same ∙ ap (λ (r : Ran). performed r .outcome) e ∙ ap (λ (n : ℕ). Played n Ended) (sym (t .commands)),
+        ap (λ (p : Performance). named (p .chip)) same ∙ ap (λ (r : Ran). named (r .chip)) e ∙ ap (λ (n : ℕ). appliedAll (stepsTo f n) (named c)) (sym (t .counted)),
+      )
+
+  closed : (k : ℕ) → translated f room ≡ Commands k → portsOpen (named c) ≡ false
+      → (played c f room .outcome ≡ Played 0 (Stopped 0 Closed)) × (played c f room .chip ≡ c)
+  closed k is shut =
+      let t = translated-says f room k is in
+      let some : 0 < t .steps = omega (arith, accepted-few f (t .steps) (t .accepted) .0) in
+      let e : ran c (bytesOfAll (commandsTo f (t .steps))) (begins f (t .steps)) ≡ ranTo c 0 (Stopped 0 Closed) =
+      run-commands c (commandsTo f (t .steps)) (begins f (t .steps))
+      ∙ steps-stop c shut (stepsTo f (t .steps)) (steps-legal f (t .steps) (t .accepted) (t .steps) (omega arith))
+      (some-step f (t .steps) (t .accepted) (t .steps) some (omega arith)) in
+      let same : played c f room ≡ performed (ran c (bytesOfAll (commandsTo f (t .steps))) (begins f (t .steps))) =
+      commands-played k is ∙ same-run c f k (t .steps) (t .counted) (t .commands) in
+      (ap (λ (p : Performance). p .outcome) same ∙ ap (λ (r : Ran). performed r .outcome) e, ap (λ (p : Performance). p .chip) same ∙ ap (λ (r : Ran). r .chip) e)
+
+  refused : (why : Refusal) → translated f room ≡ Refused why → (played c f room .outcome ≡ NotPlayed why) × (played c f room .chip ≡ c)
+  refused why is = (
+    ap (λ (p : Performance). p .outcome) (sym (played-refused c f room why is)),
+    ap (λ (p : Performance). p .chip) (sym (played-refused c f room why is)),
+  )
+
+  pub by-name : ByName c f room (played c f room)
+  by-name = record { refused = refused; answers = answers; closed = closed }
