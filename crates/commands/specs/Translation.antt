@@ -10,7 +10,8 @@ use Rattle.lists.specs.Put.{put}
 use Rattle.steps.specs.declared.Step.{Step}
 use Rattle.script.specs.File.{stepCount, checked}
 use Rattle.script.specs.Reader.{nextOf}
-use Rattle.script.specs.Numbers.{Returned, returned, ofRefusal}
+use Rattle.lists.specs.Numbers.{Returned, returned}
+use Rattle.script.specs.Numbers.{ofRefusal}
 use Rattle.script.specs.declared.Refusal.{Refusal}
 use Rattle.script.specs.declared.Refusal.the-variants.{Room}
 use Rattle.script.specs.declared.Checked.{Checked}

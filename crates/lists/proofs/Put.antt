@@ -1,6 +1,6 @@
 -- Laws of a list written into another at a place: nothing written changes nothing, the length stays, and
 -- one list written behind another is both of them written at once.
-use mathlib.Core.Path.{_≡_, refl, sym, ap, _∙_}
+use mathlib.Core.Path.{_≡_, sym, ap, _∙_}
 use mathlib.Core.List.{List, [], _∷_, _++_, append-assoc, append-nil}
 use Prim.Native.Nat.{ℕ, _+_, _≤_}
 use native.Mathlib.Numerals.{add-one, add-two, add-three}

@@ -1,4 +1,5 @@
--- A list by its elements. Its length and its element at a place are laws of proofs/Tab.
+-- A list by its elements, for every layout of bytes that has a formula: byte p of the places of a block, byte
+-- p of the steps of a file. And a list of bytes. The length and the element at a place are laws of proofs/Tab.
 use Prim.Native.Nat.{ℕ, zero, suc, _+_, _<_}
 use mathlib.Core.List.{List, [], _∷_}
 use lib.ListN.{getD}

@@ -1,6 +1,6 @@
 // What several layers ask of a list of bytes: the byte at a place, a byte as a number, and whether a
 // length is so many whole units. The definitions are in specs/, one file a subject; the laws that other
-// crates cite are in proofs/ (Scan, Tab, Put, Parts, Tests). Nothing here knows a step or a block.
+// crates cite are in proofs/ (Tests, Scan, Tab, Put, Parts). Nothing here knows a step or a block.
 ghost use mathlib.Core.Path.{_≡_};
 ghost use Prim.Native.Nat.{_<_};
 ghost use lib.ListN.{getD};

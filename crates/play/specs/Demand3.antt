@@ -10,7 +10,7 @@ use Rattle.chip.specs.State.{named}
 use Rattle.chip.specs.Reach.{Reach}
 use Rattle.chip.specs.declared.Chip.{Chip}
 use Rattle.script.specs.File.{checked}
-use Rattle.script.specs.Numbers.{returned}
+use Rattle.lists.specs.Numbers.{returned}
 use Rattle.script.specs.declared.Checked.the-variants.{Accepted}
 use Rattle.commands.specs.Command.{bytesOfAll}
 use Rattle.commands.specs.Translation.{stepsTo, commandsTo, begins}

@@ -8,7 +8,8 @@ use Rattle.chip.specs.State.{named}
 use Rattle.chip.specs.Names.{portsOpen}
 use Rattle.chip.specs.declared.Chip.{Chip}
 use Rattle.script.specs.File.{stepCount}
-use Rattle.script.specs.Numbers.{Returned, returned, ofRefusal}
+use Rattle.lists.specs.Numbers.{Returned, returned}
+use Rattle.script.specs.Numbers.{ofRefusal}
 use Rattle.script.specs.declared.Refusal.{Refusal}
 use Rattle.commands.specs.Command.{bytesOfAll}
 use Rattle.commands.specs.Translation.{stepsTo, commandsTo, translated}

@@ -14,7 +14,7 @@ use Rattle.commands.specs.declared.Command.{Command}
 use Rattle.commands.specs.declared.Command.the-variants.{Out, In, Merge, OutAcc}
 use Rattle.commands.specs.declared.CommandRead.{CommandRead}
 use Rattle.commands.specs.declared.CommandRead.the-variants.{Known, Unknown}
-use Rattle.script.specs.Numbers.{returned}
+use Rattle.lists.specs.Numbers.{returned}
 use Rattle.run.specs.Run.{did, one, following, ranTo, runFrom, afterDone, carry, more, carried, reads, ran, ofEnding}
 use Rattle.run.specs.declared.Did.{Did}
 use Rattle.run.specs.declared.Ran.{Ran}

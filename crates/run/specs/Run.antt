@@ -18,7 +18,7 @@ use Rattle.commands.specs.declared.Command.{Command}
 use Rattle.commands.specs.declared.Command.the-variants.{Out, In, Merge, OutAcc}
 use Rattle.commands.specs.declared.CommandRead.{CommandRead}
 use Rattle.commands.specs.declared.CommandRead.the-variants.{Known, Unknown}
-use Rattle.script.specs.Numbers.{Returned, returned}
+use Rattle.lists.specs.Numbers.{Returned, returned}
 use Rattle.run.specs.declared.Reason.{Reason}
 use Rattle.run.specs.declared.Reason.the-variants.{Form, Closed, Unlisted}
 use Rattle.run.specs.declared.Verdict.{Verdict}

@@ -1,28 +1,26 @@
 -- A legal block with any one byte changed is refused, whatever number it is then asked for, and an accepted
 -- file with any one byte changed is refused with number 6 and the block that holds the byte: the block's sum
 -- is off, and the blocks before it are as they were.
-use mathlib.Core.Path.{_≡_, refl, sym, ap, _∙_}
+use mathlib.Core.Path.{_≡_, sym, ap, _∙_}
 use mathlib.Core.List.{List}
-use mathlib.Core.Bool.{Bool, true, false, cond, _&&_, and-false}
-use Prim.Native.Nat.{ℕ, _+_, _-_, _*_, _/_, _%_, _≤_, _<_}
+use mathlib.Core.Bool.{Bool, true, false, and-false}
+use Prim.Native.Nat.{ℕ, _+_, _-_, _*_, _/_, _%_, _<_}
 use native.Mathlib.Omega.{arith}
 use lib.Dec.{eqb}
-use lib.ListN.{length, take, drop, getD, set, length-set, length-take, length-drop}
+use lib.ListN.{length, take, drop, getD, set, length-set}
 use lib.Seq.{drop-set-add, take-set-le, take-set-lt}
-use Rattle.lists.specs.Scan.{firstNot}
 use Rattle.lists.specs.Tab.{Bytes}
 use Rattle.lists.specs.Units.{wholeUnits}
 use Rattle.lists.proofs.Parts.{getD-part}
 use Rattle.lists.proofs.Scan.{first-is, end-first}
 use Rattle.lists.proofs.Tests.{units}
-use Rattle.script.specs.Block.{blockLegal, checkLegal}
-use Rattle.script.specs.File.{wholeBlocks, blocks, block, legalAt, firstBadBlock, checked}
+use Rattle.script.specs.Block.{blockLegal}
+use Rattle.script.specs.File.{blocks, block, legalAt, checked}
 use Rattle.script.specs.declared.Refusal.the-variants.{Block}
-use Rattle.script.specs.declared.Checked.{Checked}
 use Rattle.script.specs.declared.Checked.the-variants.{Accepted, Refused}
 use Rattle.script.proofs.Check.{check-changed}
 use Rattle.script.proofs.Checking.{Legal, answer-says, check-block}
-use Rattle.script.proofs.Rules.{Rules, legal-rules}
+use Rattle.script.proofs.Rules.{legal-rules}
 
 -- ---- a block
 pub block-changed : (b : List ℕ) (k : ℕ) (last : Bool) → blockLegal b k last ≡ true → (i v : ℕ) → i < 512 → v < 256 → getD b i 0 < 256

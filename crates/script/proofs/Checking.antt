@@ -3,7 +3,7 @@
 -- that what is so decides the answer. With it go the number and the value.
 use mathlib.Core.Path.{_≡_, refl, sym, ap, subst, _∙_}
 use mathlib.Core.List.{List}
-use mathlib.Core.Bool.{Bool, true, false, cond, not}
+use mathlib.Core.Bool.{Bool, true, false}
 use Prim.Native.Nat.{ℕ, _≤_, _<_}
 use native.Mathlib.Omega.{arith}
 use borrow.Author.Tests.{lt-ltb, le-ltb, ltb-true, ltb-false}
@@ -14,7 +14,6 @@ use Rattle.steps.specs.Step.{isGood}
 use Rattle.script.specs.File.{wholeBlocks, blocks, legalAt, firstBadBlock, stepCount, stepAt, firstBadStep, checked}
 use Rattle.script.specs.Numbers.{ofChecked, fileTable}
 use Rattle.script.specs.declared.Layout.the-variants.{Blocks}
-use Rattle.script.specs.declared.Refusal.{Refusal}
 use Rattle.script.specs.declared.Refusal.the-variants.{Length, Block, Step, Room}
 use Rattle.script.specs.declared.Checked.{Checked}
 use Rattle.script.specs.declared.Checked.the-variants.{Accepted, Refused}

@@ -6,19 +6,21 @@ use mathlib.Core.Bool.{Bool, true, false, cond, true≢false}
 use Prim.Native.Nat.{ℕ, zero, suc, _≤_, _<_, min}
 use native.Mathlib.Decide.{decLt}
 use native.Mathlib.Omega.{arith}
-use borrow.Author.Tests.{lt-ltb, le-ltb, ltb-true, ltb-false}
+use borrow.Author.Tests.{lt-ltb, le-ltb, ltb-true}
 use lib.Dec.{ltb}
 use lib.ListN.{take, drop}
+use Rattle.lists.specs.Numbers.{Returned, returned}
 use Rattle.lists.proofs.Scan.{first-before, first-fails, end-first}
-use Rattle.steps.specs.Step.{legal, bytesOf, isGood}
+use Rattle.lists.proofs.Tests.{of-cond}
+use Rattle.steps.specs.Step.{legal, bytesOf, isGood, ofStepRead}
 use Rattle.steps.specs.declared.Step.{Step}
 use Rattle.steps.specs.declared.StepRead.{StepRead}
 use Rattle.steps.specs.declared.StepRead.the-variants.{Good, Refused as NoStep}
 use Rattle.steps.proofs.Codec.{written-read}
 use Rattle.script.specs.File.{stepCount, stepPlace, stepAt, firstBadStep, checked}
+use Rattle.script.specs.Numbers.{ofNext}
 use Rattle.script.specs.Reader.{asNext, nextOf, after, stood, turned}
 use Rattle.script.specs.declared.Layout.the-variants.{Blocks}
-use Rattle.script.specs.declared.Refusal.{Refusal}
 use Rattle.script.specs.declared.Refusal.the-variants.{Step as NoSuch}
 use Rattle.script.specs.declared.Checked.the-variants.{Accepted, Refused as Rejected}
 use Rattle.script.specs.declared.Next.{Next}
@@ -46,6 +48,17 @@ module _ (f : List ℕ) (j : ℕ) where
   -- "After the last step it answers the end", however often it is asked: the position stays where it is
   pub turn-past : stepCount f ≤ j → _≡_ {A = Turn} (turned f j) (record { next = End; place = record { at = j } })
   turn-past h = rw (next-past h)
+
+-- document 01's number and value: those of the step that is read there, before the end
+pub next-number : (f : List ℕ) (j : ℕ) → ofNext (nextOf f j) ≡ cond (ltb j (stepCount f)) (ofStepRead j (stepAt Blocks f j)) (returned 0 0)
+unfolding nextOf
+next-number f j =
+    of-cond ofNext (ltb j (stepCount f)) (asNext (stepAt Blocks f j) j) End
+    ∙ ap (λ (x : Returned). cond (ltb j (stepCount f)) x (returned 0 0)) (as-next (stepAt Blocks f j))
+  where
+    as-next : (r : StepRead) → ofNext (asNext r j) ≡ ofStepRead j r
+    as-next (Good s) = refl
+    as-next NoStep = refl
 
 -- ---- what is handed out at step j: a legal step, whose six bytes stand at its place
 pub record Handed (f : List ℕ) (j : ℕ) : Type 0 where

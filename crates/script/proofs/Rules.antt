@@ -1,11 +1,10 @@
 -- The rules of a legal block, one by one: a block is legal exactly where it keeps each.
-use mathlib.Core.Path.{_≡_, refl}
+use mathlib.Core.Path.{_≡_}
 use mathlib.Core.List.{List}
-use mathlib.Core.Bool.{Bool, true, false, cond, _&&_}
-use Prim.Native.Nat.{ℕ, _+_, _*_, _%_, _≤_}
+use mathlib.Core.Bool.{Bool, true, false}
+use Prim.Native.Nat.{ℕ, _%_, _≤_}
 use native.Mathlib.Omega.{arith}
 use borrow.Author.Tests.{eqb-true, eq-eqb, leb-true}
-use lib.Dec.{leb, eqb}
 use lib.ListN.{length, getD}
 use Rattle.lists.proofs.Tests.{and-both, both-and}
 use Rattle.script.specs.Block.{word, wordSum, lastMark, countLegal, unusedZero, contentLegal, blockLegal}

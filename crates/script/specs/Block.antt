@@ -1,8 +1,7 @@
 -- A block of a script file, 512 bytes: "Bytes 0-1 block number from 0; 2 steps here; 3 is 1 in the last
 -- block, else 0; 4-5 zero; 6-509 places for 84 steps of six bytes; 510-511 check, such that all 256 words
 -- sum to 1 modulo 65,536." (document 01, Scripts; number 6). The content is apart from the number and the
--- check. The laws of the sum and of the check are in proofs/Sum and
--- proofs/Check.
+-- check. The laws of the sum and of the check are in proofs/Sum and proofs/Check.
 use Prim.Native.Nat.{ℕ, _+_, _-_, _*_, _/_, _%_}
 use mathlib.Core.List.{List, [], _∷_, _++_}
 use mathlib.Core.Bool.{Bool, cond, _&&_}

@@ -13,7 +13,6 @@ use Rattle.steps.specs.declared.StepRead.{StepRead}
 use Rattle.script.specs.Block.{blockLegal}
 use Rattle.script.specs.declared.Layout.{Layout}
 use Rattle.script.specs.declared.Layout.the-variants.{Plain, Blocks}
-use Rattle.script.specs.declared.Refusal.{Refusal}
 use Rattle.script.specs.declared.Refusal.the-variants.{Length, Block, Step}
 use Rattle.script.specs.declared.Checked.{Checked}
 use Rattle.script.specs.declared.Checked.the-variants.{Accepted, Refused}

@@ -4,6 +4,7 @@ use Prim.Native.Nat.{ℕ}
 use mathlib.Core.List.{List}
 use mathlib.Core.Bool.{cond, not}
 use lib.Dec.{ltb}
+use Rattle.lists.specs.Numbers.{Returned, returned}
 use Rattle.script.specs.File.{wholeBlocks, blocks, firstBadBlock, stepCount, firstBadStep}
 use Rattle.script.specs.declared.Layout.the-variants.{Blocks}
 use Rattle.script.specs.declared.Refusal.{Refusal}
@@ -12,14 +13,6 @@ use Rattle.script.specs.declared.Checked.{Checked}
 use Rattle.script.specs.declared.Checked.the-variants.{Accepted, Refused}
 use Rattle.script.specs.declared.Next.{Next}
 use Rattle.script.specs.declared.Next.the-variants.{Found, Refused as NoStep, End}
-
--- a number and the value with it; 0 where nothing more is returned
-pub record Returned : Type 0 where
-  pub number : ℕ
-  pub value : ℕ
-
-abbrev pub returned : ℕ → ℕ → Returned
-returned n v = record { number = n; value = v }
 
 -- 6 a block breaks a rule: block number; 7 a step is none of the allowed: step number; 8 not whole blocks
 -- or steps; 9 too little room

@@ -10,11 +10,9 @@ use Rattle.steps.specs.declared.StepRead.{StepRead}
 use Rattle.steps.specs.declared.StepRead.the-variants.{Good, Refused as NoStep}
 use Rattle.script.specs.File.{stepCount, stepAt}
 use Rattle.script.specs.declared.Layout.the-variants.{Blocks}
-use Rattle.script.specs.declared.Refusal.{Refusal}
 use Rattle.script.specs.declared.Refusal.the-variants.{Step}
 use Rattle.script.specs.declared.Next.{Next}
 use Rattle.script.specs.declared.Next.the-variants.{Found, Refused, End}
-use Rattle.script.specs.declared.Position.{Position}
 use Rattle.script.specs.declared.Turn.{Turn}
 
 -- a step that was read at place j

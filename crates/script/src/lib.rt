@@ -3,13 +3,12 @@
 // specs/: Block, File, Reader, Numbers. The reader as a struct over the bytes is the crate reader, and
 // making a file is the crate writer.
 ghost use mathlib.Core.Path.{_≡_};
-ghost use mathlib.Core.Bool.{cond};
 ghost use Prim.Native.Nat.{_+_, _*_, _%_, _/_, _≤_};
 ghost use lib.ListN.{length};
 ghost use Rattle.script.specs.Block.{wordSum, checkWord, lastMark, countLegal, unusedZero, contentLegal, blockLegal};
-ghost use Rattle.script.specs.File.{blocks, firstBadBlock, stepCount, stepPlace, stepAt, firstBadStep, checked};
+ghost use Rattle.script.specs.File.{firstBadBlock, stepCount, stepPlace, stepAt, firstBadStep, checked};
 ghost use Rattle.script.specs.Reader.{nextOf, turned};
-ghost use Rattle.script.specs.Numbers.{ofChecked, fileTable};
+ghost use Rattle.script.specs.Numbers.{ofRefusal, ofChecked, fileTable};
 use lists::is_whole;
 use lists::wide;
 use steps::Step;
@@ -28,6 +27,32 @@ pub enum Refusal {
     Block(usize),
     Step(usize),
     Room,
+}
+
+impl Refusal {
+    // Document 01's number.
+    pub fn number(self) -> u8
+        ensures { λ r. ⌜ r ≡ ofRefusal self .number ⌝ }
+    {
+        match self {
+            Refusal::Block(_) => 6,
+            Refusal::Step(_) => 7,
+            Refusal::Length => 8,
+            Refusal::Room => 9,
+        }
+    }
+
+    // The value returned beside it; 0 where nothing more is returned.
+    pub fn value(self) -> usize
+        ensures { λ r. ⌜ r ≡ ofRefusal self .value ⌝ }
+    {
+        match self {
+            Refusal::Block(k) => k,
+            Refusal::Step(j) => j,
+            Refusal::Length => 0,
+            Refusal::Room => 0,
+        }
+    }
 }
 
 // What checking a file answers: its number of steps, or the refusal.

@@ -1,1 +1,2 @@
+-- The definitions of this crate: a step, read and written (Step).
 pub mod Step

@@ -8,6 +8,7 @@ use mathlib.Core.Bool.{Bool, true, false, cond, _&&_, _||_}
 use lib.Dec.{ltb, eqb}
 use lib.Bits.{bitAnd}
 use lib.ListN.{length, getD, take, drop}
+use Rattle.lists.specs.Numbers.{Returned, returned}
 use Rattle.steps.specs.declared.Step.{Step}
 use Rattle.steps.specs.declared.Step.the-variants.{Set, Field, Colour}
 use Rattle.steps.specs.declared.StepRead.{StepRead}
@@ -59,8 +60,8 @@ abbrev pub isGood : StepRead → Bool
 isGood (Good s) = true
 isGood Refused = false
 
--- the number of document 01 for each answer; its value, the step number, is where the six bytes stand,
--- and is given by those that know the place
-abbrev pub numberOf : StepRead → ℕ
-numberOf (Good s) = 0
-numberOf Refused = 7
+-- document 01's number and value for what is read as step j: 7 and the step number, or done, where the
+-- answer is the step and no number
+abbrev pub ofStepRead : ℕ → StepRead → Returned
+ofStepRead j (Good s) = returned 0 0
+ofStepRead j Refused = returned 7 j

@@ -1,14 +1,14 @@
 -- Writing the steps of an accepted file again: each block is decided by its number, its count and its steps,
 -- since the rest of it has to be zero and there is only one check. So the writer makes the very same bytes.
-use mathlib.Core.Path.{_≡_, refl, sym, ap, _∙_}
+use mathlib.Core.Path.{_≡_, sym, ap, _∙_}
 use mathlib.Core.List.{List}
-use mathlib.Core.Bool.{Bool, true, false, cond}
+use mathlib.Core.Bool.{true}
 use Prim.Native.Nat.{ℕ, zero, suc, _+_, _-_, _*_, _/_, _%_, _≤_, _<_, min}
 use native.Mathlib.Decide.{ℕ-discrete, decLt}
 use native.Mathlib.Omega.{arith}
 use borrow.Author.Tests.{eqb-true, ne-eqb}
 use lib.Dec.{eqb}
-use lib.ListN.{length, take, drop, getD, length-take, length-drop, List·getD-eq-default}
+use lib.ListN.{length, take, getD, length-take, length-drop, List·getD-eq-default}
 use lib.Seq.{getD-take, ext-getD, length-take-le}
 use Rattle.lists.specs.Tab.{Bytes}
 use Rattle.lists.proofs.Parts.{getD-part}
@@ -17,16 +17,17 @@ use Rattle.lists.proofs.Tab.{tab-length, tab-at}
 use Rattle.lists.proofs.Tests.{Units, units, units-test}
 use Rattle.steps.specs.Step.{isGood}
 use Rattle.script.specs.Block.{withCheck}
-use Rattle.script.specs.File.{blocks, block, legalAt, stepCount, stepPlace, stepAt, firstBadStep}
+use Rattle.script.specs.File.{blocks, block, stepPlace, stepAt, firstBadStep}
 use Rattle.script.specs.declared.Layout.the-variants.{Plain, Blocks as InBlocks}
 use Rattle.script.proofs.Check.{check-only}
 use Rattle.script.proofs.Checking.{Legal}
-use Rattle.script.proofs.Rules.{Rules, legal-rules, count-few}
+use Rattle.script.proofs.Counting.{block-kept, count-last, legal-few}
+use Rattle.script.proofs.Rules.{Rules, count-few}
 use Rattle.writer.specs.Write.{wholeSteps, blocksFor, stepsHere, front, blockOf, blocksTo, fileOf, written, stepsOf}
 use Rattle.writer.specs.declared.Written.the-variants.{Blocks}
 use Rattle.writer.proofs.Back.{blocks-at, step-back}
 use Rattle.writer.proofs.Blocks.{length-front, front-past, length-blocks}
-use Rattle.writer.proofs.Writing.{write-done}
+use Rattle.writer.proofs.Writing.{says-written}
 
 -- a fact of each of the first six places
 six : (P : ℕ → Type 0) → P 0 → P 1 → P 2 → P 3 → P 4 → P 5 → (i : ℕ) → i < 6 → P i
@@ -58,14 +59,7 @@ module _ (f : List ℕ) (m : ℕ) (bytes : Bytes f) (acc : Legal f m) where
   byte-there k r h = getD-part f (512 * k) 512 r h
 
   kept : (k : ℕ) → k < M → Rules (block f k) k (eqb (k + 1) M)
-  kept k h = legal-rules (block f k) k (eqb (k + 1) M) (end-first (legalAt f) M (acc .blocks-legal) k h)
-
-  -- the number of steps, by the last block's count
-  count-is : m ≡ 84 * (M - 1) + getD f (512 * (M - 1) + 2) 0
-  unfolding stepCount
-  count-is =
-      let z : M ≡ 0 → ⊥ = λ e. omega (arith, file) in
-      sym (acc .count) ∙ rw (ne-eqb M 0 z)
+  kept k h = block-kept f m acc k h
 
   -- the steps of block k: 84, or in the last what is left
   record Here (k : ℕ) : Type 0 where
@@ -82,12 +76,11 @@ module _ (f : List ℕ) (m : ℕ) (bytes : Bytes f) (acc : Legal f m) where
       go (yes e) =
           let c = count-few (getD (block f k) 2 0) (eqb (k + 1) M) (kept k h .count) in
           let k′ : M - 1 ≡ k = omega arith in
-          let g : m ≡ 84 * k + getD f (512 * k + 2) 0 = count-is ∙ ap (λ (j : ℕ). 84 * j + getD f (512 * j + 2) 0) k′ in
-          let a = byte-there k 2 (omega arith) in
+          let g : m ≡ 84 * k + getD (block f k) 2 0 = count-last f m acc ∙ ap (λ (j : ℕ). 84 * j + getD (block f j) 2 0) k′ in
           record { some = c .0; few = c .1; inside = omega arith; full = λ l. omega arith; rest = λ l. omega arith }
       go (no e) =
           let c : getD (block f k) 2 0 ≡ 84 = eqb-true (getD (block f k) 2 0) 84 (rw (ne-eqb (k + 1) M e) at (kept k h .count)) in
-          let g = count-is in
+          let g = count-last f m acc in
           record { some = omega arith; few = omega arith; inside = omega arith; full = λ l. c; rest = λ l. omega arith }
 
   count-again : (k : ℕ) → k < M → stepsHere S k ≡ getD (block f k) 2 0
@@ -154,8 +147,7 @@ module _ (f : List ℕ) (m : ℕ) (bytes : Bytes f) (acc : Legal f m) where
       let g = here (M - 1) (omega arith) in
       let c = g .some in
       let d = g .few in
-      let a = byte-there (M - 1) 2 (omega arith) in
-      omega (arith, count-is, length-steps)
+      omega (arith, count-last f m acc, length-steps)
 
   -- the same bytes
   pub file-again : fileOf S ≡ f
@@ -173,19 +165,10 @@ module _ (f : List ℕ) (m : ℕ) (bytes : Bytes f) (acc : Legal f m) where
           ∙ ap (λ (j : ℕ). getD f j 0) e
 
   -- ---- and the writer takes the list
-  count-few-all : (1 ≤ m) × (m ≤ 1008)
-  count-few-all =
-      let w = file in
-      let g = here (M - 1) (omega arith) in
-      let c = g .some in
-      let d = g .few in
-      let a = byte-there (M - 1) 2 (omega arith) in
-      (omega (arith, count-is), omega (arith, count-is))
-
   list-whole : wholeSteps S ≡ true
   list-whole =
       let l = length-steps in
-      let g = count-few-all in
+      let g = legal-few f m acc in
       units-test 6 1008 (length S) (record { even = omega arith; some = omega arith; few = omega arith })
 
   pub step-again : (j : ℕ) → j < m → stepAt Plain S j ≡ stepAt InBlocks f j
@@ -198,6 +181,8 @@ module _ (f : List ℕ) (m : ℕ) (bytes : Bytes f) (acc : Legal f m) where
 
   pub written-again : (room : ℕ) → length f ≤ room → written S room ≡ Blocks M
   written-again room h =
-      let w = file in
-      let n = blocks-again in
-      write-done S room list-whole (length S / 6) (sym list-good) (omega arith) (omega arith) ∙ ap Blocks blocks-again
+      says-written S room (Blocks M) (record {
+        legal = record { whole = list-whole; steps-legal = list-good };
+        many = blocks-again;
+        fits = omega (arith, file);
+      })

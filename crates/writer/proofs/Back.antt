@@ -2,20 +2,20 @@
 -- after another are the list, and the reader hands out at each number the step of the list. The blocks keep
 -- every rule by their making, and a byte of a step is found where it was put.
 use mathlib.Core.Path.{_≡_, refl, sym, ap, _∙_}
-use mathlib.Core.List.{List, [], _∷_, _++_}
-use mathlib.Core.Bool.{Bool, true, false, cond}
-use Prim.Native.Nat.{ℕ, zero, suc, _+_, _-_, _*_, _/_, _%_, _≤_, _<_, min}
+use mathlib.Core.List.{List, _++_}
+use mathlib.Core.Bool.{true}
+use Prim.Native.Nat.{ℕ, zero, suc, _+_, _-_, _*_, _/_, _%_, _≤_, _<_}
 use native.Mathlib.Decide.{ℕ-discrete, decLt}
 use native.Mathlib.Omega.{arith}
 use borrow.Author.Tests.{le-leb, eq-eqb, ne-eqb}
-use lib.Dec.{leb, eqb}
-use lib.ListN.{length, take, drop, getD, length-append, length-take, length-drop, List·getD-append, List·getD-eq-default}
+use lib.Dec.{eqb}
+use lib.ListN.{length, take, drop, getD, length-take, length-drop, List·getD-append, List·getD-eq-default}
 use lib.Seq.{ext-getD}
 use Rattle.lists.proofs.Parts.{getD-past, getD-part}
 use Rattle.lists.proofs.Scan.{every-all, first-end, end-first}
 use Rattle.lists.proofs.Tab.{tab-length, tab-at}
-use Rattle.lists.proofs.Tests.{both-and, Units, units, units-test}
-use Rattle.steps.specs.Step.{stepOf, readAt, isGood}
+use Rattle.lists.proofs.Tests.{Units, units, units-test}
+use Rattle.steps.specs.Step.{stepOf, isGood}
 use Rattle.script.specs.Block.{countLegal, unusedZero, blockLegal}
 use Rattle.script.specs.File.{wholeBlocks, blocks, block, legalAt, firstBadBlock, stepCount, stepPlace, stepAt, firstBadStep, checked}
 use Rattle.script.specs.Reader.{asNext, nextOf}

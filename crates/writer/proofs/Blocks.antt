@@ -12,7 +12,7 @@ use Rattle.lists.specs.Put.{put}
 use Rattle.lists.proofs.Parts.{getD-past, part-back}
 use Rattle.lists.proofs.Put.{put-then}
 use Rattle.lists.proofs.Tab.{tab-length, tab-at}
-use Rattle.script.specs.Block.{wordSum, checkWord, withCheck}
+use Rattle.script.specs.Block.{checkWord}
 use Rattle.writer.specs.Write.{header, places, front, blockOf, blocksTo}
 
 -- ---- a front

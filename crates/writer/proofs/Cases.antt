@@ -1,13 +1,11 @@
 -- Document 01's set-up 13, by computation over the definitions that the contracts cite: "One block, SET XR60
 -- 43h: the check is B89Fh."
 use mathlib.Core.Path.{_≡_, refl}
-use mathlib.Core.List.{List, [], _∷_}
+use mathlib.Core.List.{List}
 use Prim.Native.Nat.{ℕ}
-use lib.ListN.{length}
 use Rattle.lists.specs.Scan.{firstNot, every}
 use Rattle.lists.specs.Tab.{tab}
 use Rattle.steps.specs.Step.{legal, bytesOf, shaped, stepOf}
-use Rattle.steps.specs.declared.Step.{Step}
 use Rattle.steps.specs.declared.Step.the-variants.{Set}
 use Rattle.script.specs.Block.{word, wordSum, contentLegal, blockLegal}
 use Rattle.script.specs.File.{stepCount, checked}

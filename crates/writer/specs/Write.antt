@@ -7,14 +7,14 @@ use mathlib.Core.List.{List, [], _∷_, _++_}
 use mathlib.Core.Bool.{Bool, cond, not}
 use lib.ListN.{length, getD}
 use lib.Dec.{ltb, eqb}
+use Rattle.lists.specs.Numbers.{Returned, returned}
 use Rattle.lists.specs.Put.{put}
 use Rattle.lists.specs.Tab.{tab}
 use Rattle.lists.specs.Units.{wholeUnits}
 use Rattle.script.specs.Block.{lastMark, withCheck}
 use Rattle.script.specs.File.{stepPlace, firstBadStep}
-use Rattle.script.specs.Numbers.{Returned, returned, ofRefusal}
+use Rattle.script.specs.Numbers.{ofRefusal}
 use Rattle.script.specs.declared.Layout.the-variants.{Plain, Blocks as InBlocks}
-use Rattle.script.specs.declared.Refusal.{Refusal}
 use Rattle.script.specs.declared.Refusal.the-variants.{Length, Step, Room}
 use Rattle.writer.specs.declared.Written.{Written}
 use Rattle.writer.specs.declared.Written.the-variants.{Blocks, Refused}

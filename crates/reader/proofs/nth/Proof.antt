@@ -1,6 +1,6 @@
--- `nth` meets its contract: a walk of its MIR, by hand. A `Reader` that one call returns is held in a local and passed to the ask. All that the proof knows of `over` and of `ask` is that each meets its contract.
--- The machine value that `over` returns is stored and passed on as it is. In a local of a body MIR erases the lifetime of the struct's type, so the value is shown to have the type at `erased`: what the struct owns does not say the lifetime's name.
--- Assumes nothing.
+-- `nth` meets its contract, by a walk of its code by hand: `over` makes a reader, which is held in a local and
+-- passed to `ask`. Of the two only their contracts are used. The local's type has its lifetime erased, and what
+-- the struct owns is the same at that type.
 use mathlib.Core.Path.{_≡_, refl, ap, _∙_}
 use Prim.Native.Nat.{ℕ, _<_, _^_}
 use mathlib.Core.List.{List, [], _∷_}
@@ -58,7 +58,7 @@ use Rattle.reader.proofs.nth as nth
 use Rattle.reader.proofs.nth.Statement as stated
 use Rattle.reader.proofs.nth.Code as code
 
--- the struct's type, over the signature's lifetimes
+-- a Reader at the lifetime of the signature
 abbrev B : Lfts 1 → RattleType
 B κs = T.the-row (namedLft 1 0 tt κs)
 
@@ -66,7 +66,7 @@ abbrev stayed : Stays (nth.ended .signature .params) (nth.ended .kept)
 stayed = (stay-none-slice (0 ∷ []) tt (plain (λ _. u8)) yes, (stay-none (λ _. usize) yes, tt))
 
 module _ {M : Type 1} (𝓤 : URA M) (H : Heap 𝓤) (A : Atoms 𝓤) (mem : Memory → SProp 𝓤) (run : Routine → Fun 𝓤) where
-  -- the contracts that the proof cites
+  -- the contracts of the callees
   abbrev Over : Contract 𝓤
   Over = tripleOf 𝓤 H A over.signature (over.spec 𝓤 H A mem run)
 
@@ -74,14 +74,14 @@ module _ {M : Type 1} (𝓤 : URA M) (H : Heap 𝓤) (A : Atoms 𝓤) (mem : Mem
   Ask = tripleOf 𝓤 H A ask.signature (ask.spec 𝓤 H A mem run)
 
 module _ {M : Type 1} (𝓤 : URA M) (H : Heap 𝓤) (A : Atoms 𝓤) (W : Given 𝓤 H A) (mem : Memory → SProp 𝓤) (run : Routine → Fun 𝓤) (κ : Lft) (q : Share) (s : RefT (List ℕ)) (n : ℕ) (ok : n < 2 ^ 64) where
-  -- the machine value that s has
+  -- the slice as the machine holds it
   abbrev v : Val
   v = sliceVal (s .ptr) (length (s .now))
 
   abbrev found : Next
   found = nextOf (now s) n
 
-  -- the struct's type as a local of a body has it
+  -- the lifetime as a local's type has it
   abbrev αᵉ : NamedLft
   αᵉ = record { mir = erased; lft = κ }
 
@@ -94,7 +94,7 @@ module _ {M : Type 1} (𝓤 : URA M) (H : Heap 𝓤) (A : Atoms 𝓤) (W : Given
   abbrev Own : Fml
   Own = ShrSlice (named 0) κ u8 .own s (v ∷ [])
 
-  -- the call of `over`: what it is passed, what it asks, and what is known of its result
+  -- the call of `over`: what it is passed, what it asks, and what it says of its result
   abbrev to-over : Over 𝓤 H A mem run .Ghost
   to-over = (((κ, tt), (q, tt), tt, (s, (n, tt)), at), tt)
 
@@ -107,7 +107,7 @@ module _ {M : Type 1} (𝓤 : URA M) (H : Heap 𝓤) (A : Atoms 𝓤) (W : Given
   over-said : (r : Reader) → ent 𝓤 (ensured 𝓤 H A over.ended (over.clauses 𝓤 H A mem run) (κ, tt) (s, (n, tt)) tt r) (fact 𝓤 ((r .src ≡ s) × (r .at ≡ n)))
   over-said r = exE 𝓤 _ (λ ws. snd∗ 𝓤 (sem 𝓤 H A (lasts over.ended (κ, tt) (s, (n, tt)) ws)) (fact 𝓤 ((r .src ≡ s) × (r .at ≡ n))))
 
-  -- the call of `ask`, at the struct r with the machine value u
+  -- the call of `ask` on the reader r, which the machine holds as u
   abbrev to-ask : Reader → Val → Ask 𝓤 H A mem run .Ghost
   to-ask r u = (((κ, tt), (q, tt), tt, (r, tt), (u ∷ [], tt)), tt)
 
@@ -132,14 +132,14 @@ module _ {M : Type 1} (𝓤 : URA M) (H : Heap 𝓤) (A : Atoms 𝓤) (W : Given
         calls-at ! fm (Over 𝓤 H A mem run) known-over to-over (and-then ! (load ! (from ! (stop !)) (look ! 6 refl)) (and-then ! (load ! (from ! (stop !)) (look ! 4 refl)) (no-more !))) (λ u.
         use1 W (later (some (λ (r : Reader). ((‵ (flft κ q) ⊛ ‵ ftrue) ⊛ ‵ (B (κ, tt) .own r (u ∷ []))) ⊛ raw (ensured 𝓤 H A over.ended (over.clauses 𝓤 H A mem run) (κ, tt) (s, (n, tt)) tt r)))) (id⊢ 𝓤 _) $ await ! tt $ pick ! (λ r.
         split ! $ move ! (1 ∷ []) $ use1 W (raw (fact 𝓤 ((r .src ≡ s) × (r .at ≡ n)))) (over-said r) $ heard ! ((r .src ≡ s) × (r .at ≡ n)) (λ e. split ! $ move ! (1 ∷ []) $
-        -- [what the struct owns; the token; what s owns; room for _2; …; _1; …; room for _0; …]
+        -- [the reader's share; the token; the slice's share; the locals, from the last]
         peeks ! (B (κ, tt)) (Is (B (κ, tt))) (shows 𝓤 H A (B (κ, tt))) r (u ∷ []) (λ is.
         land ! (from ! (stop !)) (init ! 3 refl (LL.lawful (T.the-type αᵉ) (T′.the-laws αᵉ) 𝓤 H A W .typed r _ is .0)) $
         use2 W (raw (Ask 𝓤 H A mem run .pre (to-ask r u))) (goes-ask r u) $
         calls-at ! fm (Ask 𝓤 H A mem run) known-ask (to-ask r u) (and-then ! (load ! (from ! (stop !)) (look ! 2 refl)) (no-more !)) (λ u′.
         use1 W (later (some (λ (t : Next). ((‵ (flft κ q) ⊛ ‵ ftrue) ⊛ ‵ (S.the-row .own t (u′ ∷ []))) ⊛ raw (ensured 𝓤 H A ask.ended (ask.clauses 𝓤 H A mem run) (κ, tt) (r, tt) tt t)))) (id⊢ 𝓤 _) $ await ! tt $ pick ! (λ t.
         split ! $ move ! (1 ∷ []) $ use1 W (raw (fact 𝓤 (t ≡ nextOf (now (r .src)) (r .at)))) (ask-said r t) $ heard ! (t ≡ nextOf (now (r .src)) (r .at)) (λ e′. split ! $ move ! (1 ∷ []) $
-        -- [the result; the token; what s owns; _2; …; _1; …; room for _0; …]
+        -- [the answer; the token; the slice's share; the locals, from the last]
         peeks ! S.the-row (Is S.the-row) (shows 𝓤 H A S.the-row) t (u′ ∷ []) (λ is′.
         land ! (from ! (stop !)) (init ! 9 refl (EL.lawful S.the-type S′.the-laws 𝓤 H A W tt .typed t _ is′ .0)) $
         returns ! (look ! 9 refl) $ forget ! 3 refl $ forget ! 5 refl $ forget ! 7 refl $ forget ! 9 refl $ move ! (9 ∷ 10 ∷ []) $ free1 ! $ move ! (7 ∷ 8 ∷ []) $ free1 ! $ move ! (5 ∷ 6 ∷ []) $ free1 ! $ move ! (3 ∷ 4 ∷ []) $ free1 ! $ free0 ! $

@@ -1,5 +1,5 @@
 -- `first_bad_block` meets its contract. The loop's invariant: the answer from here on is the whole answer.
-use mathlib.Core.Path.{_≡_, refl, sym, ap, _∙_}
+use mathlib.Core.Path.{_≡_, sym, ap, _∙_}
 use Prim.Native.Nat.{ℕ, _+_, _-_, _*_}
 use native.Mathlib.Nat.{sub-zero, add-sub-cancel-left}
 use native.Mathlib.Omega.{arith}

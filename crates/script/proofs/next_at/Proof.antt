@@ -1,5 +1,5 @@
 -- `next_at` meets its contract: past the last step the end, and before it the step that is read there, or its refusal.
-use mathlib.Core.Path.{_≡_, sym, ap, _∙_}
+use mathlib.Core.Path.{sym, ap, _∙_}
 use native.Mathlib.Omega.{arith}
 use borrow.Author.Needs.{needs}
 use denote.Ref.{now}

@@ -1,7 +1,6 @@
 -- `step_at` meets its contract: past the end there are not six bytes, and else the place is where the step stands.
 use borrow.Author.Needs.{needs}
-use mathlib.Core.Path.{_≡_, sym, ap, _∙_}
-use Prim.Native.Nat.{ℕ, _+_, _*_}
+use mathlib.Core.Path.{sym, ap, _∙_}
 use denote.Ref.{now}
 use native.Mathlib.Omega.{arith}
 use Rattle.steps.specs.Step.{readAt}

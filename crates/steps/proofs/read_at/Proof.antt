@@ -1,6 +1,6 @@
 -- `read_at` meets its contract: where six bytes stand they are the part of the list, and where fewer do the part is too short.
 use borrow.Author.Needs.{needs}
-use mathlib.Core.Path.{_≡_, sym, ap, _∙_}
+use mathlib.Core.Path.{sym, ap, _∙_}
 use denote.Ref.{now}
 use native.Mathlib.Omega.{arith}
 use Rattle.lists.proofs.Parts.{six-at}

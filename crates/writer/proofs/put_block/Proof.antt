@@ -1,9 +1,9 @@
 -- `put_block` meets its contract: the header, the places, and the check of the 510 bytes before it.
-use mathlib.Core.Path.{_≡_, sym}
+use mathlib.Core.Path.{sym}
 use native.Mathlib.Omega.{arith}
 use borrow.Author.Needs.{needs}
 use denote.Ref.{now}
-use lib.ListN.{length, length-set, length-take}
+use lib.ListN.{length-set}
 use lib.Seq.{length-take-le}
 use Rattle.writer.proofs.Blocks.{block-done}
 use Rattle.writer.proofs.put_block.Statement.{statement}

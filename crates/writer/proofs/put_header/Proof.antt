@@ -1,6 +1,4 @@
 -- `put_header` meets its contract: six stores are a list put in.
-use mathlib.Core.List.{[], _∷_}
-use Prim.Native.Nat.{_+_, _%_, _/_}
 use native.Mathlib.Omega.{arith}
 use borrow.Author.Needs.{needs}
 use denote.Ref.{now}
