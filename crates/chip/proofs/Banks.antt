@@ -1,6 +1,8 @@
 -- The registers of a group as one list, its bank: a table, or the one byte of MSR or PALMASK. What a register's byte is and what
--- replacing one does, said over the bank and for every group at once; the laws of names rest on these two equations.
+-- replacing one does, said over the bank and for every group at once; the laws of names rest on these two equations. Then that
+-- storing colours leaves every bank, and that groups are told apart by their numbers.
 use Prim.Native.Nat.{ℕ, _<_}
+use native.Mathlib.Omega.{arith}
 use mathlib.Core.Bool.{Bool, true, false, cond}
 use mathlib.Core.Path.{_≡_, refl, sym, ap, _∙_}
 use mathlib.Core.List.{List, [], _∷_}
@@ -12,6 +14,8 @@ use Rattle.registers.specs.declared.Group.{Group}
 use Rattle.registers.specs.declared.Group.the-variants.{Cr, Sr, Gr, Xr, Fr, Mr, Msr, Palmask}
 use Rattle.chip.specs.State.{Named}
 use Rattle.chip.specs.Names.{register, replaced}
+use Rattle.chip.specs.Palette.{withPalette}
+use Rattle.chip.specs.declared.Rgb.{Rgb}
 
 abbrev pub bank : Group → Named → List ℕ
 bank Cr n = n .cr
@@ -26,6 +30,17 @@ bank Palmask n = n .palmask ∷ []
 -- the place in the bank: the index, where the group has one
 abbrev pub place : Group → ℕ → ℕ
 place g i = cond (ltb (numberOf g) 6) i 0
+
+-- how many registers a bank has room for
+abbrev pub room : Group → ℕ
+room g = cond (ltb (numberOf g) 6) 256 1
+
+pub place-room : (g : Group) (i : ℕ) → i < 0x100 → place g i < room g
+place-room g i h = go (ltb (numberOf g) 6)
+  where
+    go : (z : Bool) → cond z i 0 < cond z 256 1
+    go true = h
+    go false = omega arith
 
 pub register-bank : (g : Group) (n : Named) (i : ℕ) → register g n i ≡ getD (bank g n) (place g i) 0
 register-bank Cr n i = refl
@@ -50,6 +65,16 @@ bank-replaced Fr g n i b = refl
 bank-replaced Mr g n i b = refl
 bank-replaced Msr g n i b = one-byte (is g Msr) (n .msr) b
 bank-replaced Palmask g n i b = one-byte (is g Palmask) (n .palmask) b
+
+pub bank-colours : (h : Group) (n : Named) (colours : List Rgb) → bank h (withPalette n colours) ≡ bank h n
+bank-colours Cr n colours = refl
+bank-colours Sr n colours = refl
+bank-colours Gr n colours = refl
+bank-colours Xr n colours = refl
+bank-colours Fr n colours = refl
+bank-colours Mr n colours = refl
+bank-colours Msr n colours = refl
+bank-colours Palmask n colours = refl
 
 pub is-self : (g : Group) → is g g ≡ true
 is-self g = eq-eqb (numberOf g) (numberOf g) refl

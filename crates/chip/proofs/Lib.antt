@@ -2,5 +2,9 @@ pub mod Reached
 pub mod Banks
 pub mod NameLaws
 pub mod AccessLaws
+pub mod NumberLaws
+pub mod IndexLaws
 pub mod PaletteLaws
+pub mod ResetLaws
 pub mod ReachLaws
+pub mod SizeLaws

@@ -1,7 +1,6 @@
 -- The laws of reading and writing by name, for every group at once: a register that received a byte, the other registers, the
 -- colours, and which bits can change at all. Layers above cite these and not the tables.
 use Prim.Native.Nat.{ℕ, zero, suc, _<_}
-use native.Mathlib.Omega.{arith}
 use mathlib.Core.Bool.{Bool, true, false, cond}
 use mathlib.Core.Path.{_≡_, refl, sym, ap, _∙_}
 use mathlib.Core.List.{List, [], _∷_}
@@ -18,7 +17,7 @@ use Rattle.registers.specs.declared.Group.the-variants.{Cr, Sr, Gr, Xr, Fr, Mr,
 use Rattle.chip.specs.State.{Named}
 use Rattle.chip.specs.Names.{register, replaced, locked, writableAt, received}
 use Rattle.chip.specs.Palette.{coloured}
-use Rattle.chip.proofs.Banks.{bank, place, register-bank, bank-replaced, is-self, is-same}
+use Rattle.chip.proofs.Banks.{bank, place, register-bank, bank-replaced, bank-colours, is-self, is-same}
 
 -- the register has its place in the state: every index below 256 does, where tables hold 256 bytes
 abbrev pub Has : Group → Named → ℕ → Type 0
@@ -137,11 +136,5 @@ received-keeps-colours g n i v = refl
 -- storing a colour leaves every register
 pub coloured-keeps-register : (h : Group) (n : Named) (e r g b i : ℕ) → register h (coloured n e r g b) i ≡ register h n i
 unfolding coloured
-coloured-keeps-register Cr n e r g b i = refl
-coloured-keeps-register Sr n e r g b i = refl
-coloured-keeps-register Gr n e r g b i = refl
-coloured-keeps-register Xr n e r g b i = refl
-coloured-keeps-register Fr n e r g b i = refl
-coloured-keeps-register Mr n e r g b i = refl
-coloured-keeps-register Msr n e r g b i = refl
-coloured-keeps-register Palmask n e r g b i = refl
+coloured-keeps-register h n e r g b i =
+    register-bank h (coloured n e r g b) i ∙ ap (λ (l : List ℕ). getD l (place h i) 0) (bank-colours h n _) ∙ sym (register-bank h n i)

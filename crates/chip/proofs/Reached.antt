@@ -1,8 +1,8 @@
 -- A port access, once it is known whether the ports are open and where the port leads: what the proofs of `read` and `write`
 -- cite for each of their cases.
 use Prim.Native.Nat.{ℕ}
-use mathlib.Core.Bool.{Bool, true, false, cond, not}
-use mathlib.Core.Path.{_≡_, refl, sym, ap, _∙_}
+use mathlib.Core.Bool.{Bool, true, false, not}
+use mathlib.Core.Path.{_≡_}
 use borrow.Author.Tests.{not-true, not-false}
 use Rattle.ports.specs.Ports.{target}
 use Rattle.ports.specs.declared.Target.{Target}

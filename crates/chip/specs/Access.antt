@@ -1,5 +1,5 @@
--- What a port write and a port read do. Document 01, "Ports" and "Numbers returned", 0 to 2: the ports are closed (2) before a
--- port is not listed (1), and a refusal hands back the whole state unchanged.
+-- What a port write and a port read do, and the number that each is given. Document 01, "Ports" and "Numbers returned", 0 to 2:
+-- the ports are closed (2) before a port is not listed (1), and a refusal hands back the whole state unchanged.
 use Prim.Native.Nat.{ℕ}
 use mathlib.Core.Bool.{Bool, true, false, cond}
 use Rattle.ports.specs.Ports.{target}
@@ -45,6 +45,21 @@ readFrom WriteIndex c = seen Done (c .loading .index) c
 readFrom Paldata c = seen Done (paldata (named c) (c .loading)) (withLoading c (moved (c .loading)))
 readFrom NotPicked c = seen Done 0xFF c
 readFrom NotListed c = seen Unlisted 0xFF c
+
+-- whether a port is listed for a direction, by where it leads
+abbrev pub isListed : Target → Bool
+isListed (Index g) = true
+isListed (Data g) = true
+isListed ReadIndex = true
+isListed WriteIndex = true
+isListed Paldata = true
+isListed NotPicked = true
+isListed NotListed = false
+
+-- the number that a port write (true) or read (false) is given: 2 while the ports are closed, else 1 if the port or its
+-- direction is not listed, else 0. That the answers below have it, and each exactly then, is in proofs/NumberLaws
+unfoldable pub accessNumber : Bool → Chip → ℕ → ℕ
+accessNumber write c p = cond (portsOpen (named c)) (cond (isListed (target (colour (named c)) write p)) 0 1) 2
 
 -- a port write and a port read
 unfoldable pub portWritten : Chip → ℕ → ℕ → Wrote

@@ -1,5 +1,5 @@
 -- The states that accesses can reach: a reset, and then any port reads and writes whatever, refused ones included.
--- Document 01's demand 3 speaks of those whose reset had CFG1 = 1; the pin bytes stand in the type, so that it can be asked.
+-- The pin bytes stand in the type: the promise on scripts asks for a reset with CFG1 = 1.
 use Prim.Native.Nat.{ℕ, _<_}
 use Rattle.chip.specs.Access.{portWritten, portRead}
 use Rattle.chip.specs.Reset.{reset}

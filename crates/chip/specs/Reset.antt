@@ -1,6 +1,8 @@
 -- The state after a reset, which lends two pin bytes. Document 01, "Registers" and "Palette": XR70 is the first pin byte with bit
--- 0 made 1, XR71 is the second, XR08 bit 1 shows pin CFG1, which is XR70 bit 1; the indexes are 0, and so are the palette's
--- entries, its index and the held bytes; the position is red, and the write index counts as written last.
+-- 0 made 1, XR71 is the second, XR08 bit 1 shows pin CFG1, which is XR70 bit 1; the palette's entries, its index and the held
+-- bytes are 0; the position is red, and the write index counts as written last. The indexes are 0: of CR, SR, GR and XR the
+-- databook says so where it has their index registers (chapters 9, 10, 11 and 14), and for FR and MR, whose index registers have
+-- no page, it is document 01's rule that a reset bit that is not given is 0.
 use Prim.Native.Nat.{ℕ, zero, suc}
 use mathlib.Core.Bool.{Bool, false, cond}
 use mathlib.Core.List.{List, [], _∷_, _++_}

@@ -1,6 +1,6 @@
 // The chip: its state by value, its reset, and each register by name. Document 01, "Ports" (the state) and
-// "Registers". The palette is in palette.rt, the port accesses in access.rt. Only `get`, `replace`,
-// `entry`, `put_colour` and `reset` touch the tables; everything else asks for a register or a colour.
+// "Registers". The palette is in palette.rt, the port accesses in access.rt. Only `fill` with `new`, `get`,
+// `replace`, `entry` and `put_colour` touch the tables; everything else asks for a register or a colour.
 ghost use mathlib.Core.Path.{_≡_};
 ghost use Rattle.chip.specs.State.{named, withNamed};
 ghost use Rattle.chip.specs.Names.{register, replaced, locked as lockedOf, received, portsOpen, colour as colourOf, eightBit};

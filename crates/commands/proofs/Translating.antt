@@ -2,25 +2,28 @@
 use Prim.Native.Nat.{ℕ, zero, suc, _+_, _*_, _/_, _≤_, _<_}
 use native.Mathlib.Omega.{arith}
 use native.Mathlib.Numerals.{add-one}
-use mathlib.Core.Bool.{Bool, true, false, cond}
+use mathlib.Core.Bool.{Bool, true, false, cond, not}
 use mathlib.Core.Path.{_≡_, refl, sym, ap, _∙_}
 use mathlib.Core.List.{List, [], _∷_, _++_}
 use lib.Dec.{ltb}
 use lib.ListN.{length}
 use borrow.Author.Tests.{lt-ltb, le-ltb, ltb-false}
+use Rattle.lists.specs.Numbers.{returned}
 use Rattle.lists.specs.Put.{put}
+use Rattle.lists.proofs.Tests.{of-cond}
 use Rattle.steps.specs.declared.Step.{Step}
-use Rattle.script.specs.File.{stepCount, checked}
+use Rattle.script.specs.File.{wholeBlocks, blocks, firstBadBlock, stepCount, firstBadStep, checked}
 use Rattle.script.specs.Reader.{nextOf}
 use Rattle.script.specs.declared.Checked.{Checked}
 use Rattle.script.specs.declared.Checked.the-variants.{Accepted, Refused as NotAccepted}
 use Rattle.script.specs.declared.Next.{Next}
 use Rattle.script.specs.declared.Next.the-variants.{Found}
-use Rattle.script.specs.declared.Refusal.the-variants.{Room}
+use Rattle.script.specs.declared.Refusal.the-variants.{Length, Block, Step as NoStep, Room}
+use Rattle.script.specs.declared.Layout.the-variants.{Blocks}
 use Rattle.script.proofs.Checking.{Legal, answer-says}
 use Rattle.commands.specs.Command.{bytesOfAll}
 use Rattle.commands.specs.Expansion.{expanded, commandsOf}
-use Rattle.commands.specs.Translation.{stepsTo, commandsTo, begins, Sent, ifRoom, translated, leftBy}
+use Rattle.commands.specs.Translation.{stepsTo, commandsTo, begins, Sent, ifRoom, translated, leftBy, numbersOf, translationTable}
 use Rattle.commands.specs.declared.Translated.the-variants.{Commands, Refused}
 use Rattle.commands.proofs.Sending.{sent-append, sent-none}
 use Rattle.commands.proofs.Expanding.{commands-next}
@@ -70,3 +73,19 @@ translated-says f room k is = go (checked f) refl is
     go : (r : Checked) → checked f ≡ r → ifRoom r f room ≡ Commands k → Translates f room k
     go (Accepted m) acc h = roomy m acc (ltb room (32 * m)) refl h
     go (NotAccepted why) acc h = absurd (let z : _≡_ {A = ℕ} 0 1 = cc in omega arith)
+
+-- the answer's number and value are those of the table
+pub translated-number : (f : List ℕ) (room : ℕ) → numbersOf (translated f room) ≡ translationTable f room
+unfolding translated checked
+translated-number f room =
+    go (not (wholeBlocks f)) (ltb (firstBadBlock f) (blocks f)) (ltb (firstBadStep Blocks f (stepCount f)) (stepCount f))
+  where
+    go : (a b d : Bool)
+        → numbersOf (ifRoom (cond a (NotAccepted Length) (cond b (NotAccepted (Block (firstBadBlock f)))
+        (cond d (NotAccepted (NoStep (firstBadStep Blocks f (stepCount f)))) (Accepted (stepCount f))))) f room)
+        ≡ cond a (returned 8 0) (cond b (returned 6 (firstBadBlock f)) (cond d (returned 7 (firstBadStep Blocks f (stepCount f)))
+        (cond (ltb room (32 * stepCount f)) (returned 9 0) (returned 0 (begins f (stepCount f))))))
+    go true b d = refl
+    go false true d = refl
+    go false false true = refl
+    go false false false = of-cond numbersOf (ltb room (32 * stepCount f)) (Refused Room) (Commands (begins f (stepCount f)))

@@ -1,17 +1,18 @@
 -- A whole script file translated into its commands: document 01, "Commands" and "Numbers returned", 8, 6, 7 and 9 in that order.
 -- Where a step's commands begin is how many commands the steps before it have.
 use Prim.Native.Nat.{ℕ, zero, suc, _+_, _*_}
-use mathlib.Core.Bool.{cond}
+use mathlib.Core.Bool.{cond, not}
 use mathlib.Core.Path.{_≡_}
 use mathlib.Core.List.{List, [], _∷_, _++_}
 use lib.Dec.{ltb}
 use lib.ListN.{length}
 use Rattle.lists.specs.Put.{put}
 use Rattle.steps.specs.declared.Step.{Step}
-use Rattle.script.specs.File.{stepCount, checked}
+use Rattle.script.specs.File.{wholeBlocks, blocks, firstBadBlock, stepCount, firstBadStep, checked}
 use Rattle.script.specs.Reader.{nextOf}
 use Rattle.lists.specs.Numbers.{Returned, returned}
 use Rattle.script.specs.Numbers.{ofRefusal}
+use Rattle.script.specs.declared.Layout.the-variants.{Blocks}
 use Rattle.script.specs.declared.Refusal.{Refusal}
 use Rattle.script.specs.declared.Refusal.the-variants.{Room}
 use Rattle.script.specs.declared.Checked.{Checked}
@@ -59,6 +60,15 @@ leftBy (Refused r) f out = out
 abbrev pub numbersOf : Translated → Returned
 numbersOf (Commands k) = returned 0 k
 numbersOf (Refused r) = ofRefusal r
+
+-- the table of numbers for a translation, in its order: 8, 6, 7, 9
+abbrev pub translationTable : List ℕ → ℕ → Returned
+translationTable f room =
+    cond (not (wholeBlocks f)) (returned 8 0)
+    (cond (ltb (firstBadBlock f) (blocks f)) (returned 6 (firstBadBlock f))
+    (cond (ltb (firstBadStep Blocks f (stepCount f)) (stepCount f)) (returned 7 (firstBadStep Blocks f (stepCount f)))
+    (cond (ltb room (32 * stepCount f)) (returned 9 0)
+    (returned 0 (begins f (stepCount f))))))
 
 -- the bytes of commands stand in an output from a place on, and end at another
 pub record Sent (before : List ℕ) (at : ℕ) (cs : List Command) (after : List ℕ) (end : ℕ) : Type 0 where

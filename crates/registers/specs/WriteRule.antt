@@ -1,6 +1,6 @@
 -- What a write makes of a register's byte. Document 01, "Registers": a data write changes the writable bits only, and
 -- CR11 bit 7 = 1 stops writes to CR00 to CR07, but CR07 bit 4 can always be written.
--- That bit for bit this is so is the law `digit-written`, in WriteLaws.
+-- That bit for bit this is so is the law `bit-written`, in WriteLaws.
 use Prim.Native.Nat.{ℕ, _-_}
 use mathlib.Core.Bool.{Bool, cond}
 use lib.Dec.{eqb, ltb}

@@ -1,0 +1,93 @@
+-- `blit::bounds::pattern_inside` meets its contract: each line passed has its pattern bytes in memory. Assumes nothing.
+use Prim.Native.Nat.{_-_, _≤_, _<_}
+use mathlib.Core.Path.{_≡_, refl, sym}
+use mathlib.Core.Bool.{true}
+use lib.Dec.{ltb}
+use native.Mathlib.Omega.{arith}
+use borrow.Author.Needs.{needs}
+use borrow.Author.Tests.{not-true, not-false}
+use Rattle.raster.specs.Raster.{every}
+use Rattle.raster.specs.Laws.{every-false}
+use Rattle.blit.specs.Transfer.{patternPlace}
+use Rattle.blit.proofs.Every.{every-more}
+use Rattle.blit.proofs.Areas.{line-back, low-back, line-fits, pattern-all, pattern-line-in, pattern-line-out}
+use Rattle.blit.proofs.bounds.pattern_inside.Statement.{statement}
+use Rattle.blit.proofs.bounds.pattern_inside.Tie as tie
+
+abbrev Inv-loop : tie.InvT-loop
+Inv-loop n t h w r₀ r = (r ≤ h) × (every r (λ r. every (t .width) (λ c. ltb (patternPlace t r c) n)) ≡ true)
+
+abbrev μ-loop : tie.MeasureT-loop
+μ-loop n t h w r₀ r = h - r
+
+-- the 64 bytes lie in memory
+returns : tie.Need-returns Inv-loop μ-loop
+returns c = sym (pattern-all _ (c .before .before .args .t) (c .if1 .taken))
+
+line-low-requires : tie.Need-line-low-requires Inv-loop μ-loop
+line-low-requires c κs =
+    let b = c .before .before .before .before .before .before in
+    let t = b .args .t in
+    let r = c .before .loop .r in (
+      b .pre .0,
+      (
+        (search needs, line-back _ t (t .destination) (b .pre .0 .wide) (b .pre .1 .1) r (c .loop-test .taken)),
+        low-back _ t (t .destination) (b .pre .0 .wide) (b .pre .1 .1) r (c .loop-test .taken),
+      ),
+    )
+
+pattern-line-inside-requires : tie.Need-pattern-line-inside-requires Inv-loop μ-loop
+pattern-line-inside-requires c κs =
+    let b = c .before .before .before .before .before .before .before .before in
+    let t = b .args .t in
+    let f = line-fits _ t (t .destination) (b .pre .0 .wide) (b .pre .1 .1) (c .before .before .before .loop .r) (c .before .before .loop-test .taken) in
+    (omega (arith, f, c .before .line-low .ensures), omega arith)
+
+-- a line has one outside
+returns-2 : tie.Need-returns-2 Inv-loop μ-loop
+returns-2 c =
+    let b = c .before .before .before .before .before .before .before .before .before .before in
+    let t = b .args .t in
+    let r = c .before .before .before .before .before .loop .r in
+    let hr : r < t .height = c .before .before .before .before .loop-test .taken in
+    let gone = rw (c .before .before .before .line-low .ensures, c .before .before .pattern-line .ensures .0) at (c .before .pattern-line-inside .ensures .1 (not-true _ (c .if2 .taken))) in
+    sym (every-false (t .height) _ r hr (pattern-line-out (b .args .n) t (b .pre .0 .wide) (b .pre .1 .1) r hr gone))
+
+loop-again : tie.Need-loop-again Inv-loop μ-loop
+loop-again c =
+    let b = c .before .before .before .before .before .before .before .before .before .before in
+    let t = b .args .t in
+    let r = c .before .before .before .before .before .loop .r in
+    let hr : r < t .height = c .before .before .before .before .loop-test .taken in
+    let here = rw (c .before .before .before .line-low .ensures, c .before .before .pattern-line .ensures .0) at (c .before .pattern-line-inside .ensures .0 (not-false _ (c .if2 .left))) in (
+      search needs,
+      every-more r (λ r. every (t .width) (λ c. ltb (patternPlace t r c) (b .args .n)))
+          (pattern-line-in (b .args .n) t (b .pre .0 .wide) (b .pre .1 .1) r hr here) (c .before .before .before .before .before .loop .inv .1),
+    )
+
+-- every line passed
+returns-3 : tie.Need-returns-3 Inv-loop μ-loop
+returns-3 c =
+    let e : c .before .loop .r ≡ c .before .before .before .before .before .before .args .t .height = omega arith in
+    sym (rw e at (c .before .loop .inv .1))
+
+pub pattern-inside-spec : {M : Type 1} → statement M
+pattern-inside-spec =
+    tie.close
+    (tie.spec
+    Inv-loop
+    μ-loop
+    (λ c. search needs)
+    (λ c. omega arith)
+    returns
+    (λ c. search needs)
+    (λ c. search needs)
+    (λ c. (search needs, refl))
+    line-low-requires
+    (λ c κs. search needs)
+    pattern-line-inside-requires
+    returns-2
+    (λ c. omega arith)
+    (λ c. omega arith)
+    loop-again
+    returns-3)

@@ -1,0 +1,7 @@
+pub mod Memory
+pub mod Transfer
+pub mod Turns
+pub mod Numbers
+pub mod Laws
+pub mod Setups
+pub mod Working

@@ -1,0 +1,130 @@
+-- Each number of a transfer is given exactly when document 01, "Numbers returned", says: 3, then 5, then 4, which is exact in both
+-- directions. Assumes nothing.
+use mathlib.Core.Path.{_≡_, refl, ap}
+use mathlib.Core.Bool.{Bool, true, false, cond, not, _&&_, _||_, and-false, false≢true, true≢false}
+use mathlib.Core.List.{List}
+use mathlib.Core.Logic.{_↔_}
+use Prim.Native.Nat.{ℕ, zero, suc, _≤_, _<_}
+use native.Mathlib.Nat.{le-refl}
+use native.Mathlib.Omega.{arith}
+use lib.Dec.{ltb}
+use lib.ListN.{length}
+use borrow.Author.Tests.{ltb-false, le-ltb, eqb-false}
+use Rattle.raster.specs.Raster.{every, usesSource, usesPattern}
+use Rattle.raster.specs.Laws.{and-left, every-false}
+use Rattle.blit.specs.declared.Transfer.{Transfer}
+use Rattle.blit.specs.declared.Answer.{Answer}
+use Rattle.blit.specs.declared.Answer.the-variants.{Done, Refused}
+use Rattle.blit.specs.declared.Refusal.the-variants.{Length, Range, Outside}
+use Rattle.blit.specs.Memory.{lengthAllowed, answerNumber}
+use Rattle.blit.specs.Transfer.{patternPlace, inRange, everyByte, within, inMemory, accepted, transferAnswer, transferred}
+
+-- a byte that the transfer uses lies outside the n bytes of memory: the destination's always count, the source's and the
+-- pattern's only if the code depends on them
+pub data UsedOutside (n : ℕ) (t : Transfer) : Type 0 where
+  destination : (r c : ℕ) → r < t .height → c < t .width → within n t (t .destination) r c ≡ false → UsedOutside n t
+  source : usesSource (t .code) ≡ true → (r c : ℕ) → r < t .height → c < t .width → within n t (t .source) r c ≡ false → UsedOutside n t
+  pattern : usesPattern (t .code) ≡ true → (r c : ℕ) → r < t .height → c < t .width → n ≤ patternPlace t r c → UsedOutside n t
+
+record Fails (n : ℕ) (f : ℕ → Bool) : Type 0 where
+  at : ℕ
+  below : at < n
+  fails : f at ≡ false
+
+fails-more : (n : ℕ) (f : ℕ → Bool) (b : Bool) → f n ≡ b → b && every n f ≡ false → (every n f ≡ false → Fails n f) → Fails (suc n) f
+fails-more n f false q e g = record { at = n; below = le-refl (suc n); fails = q }
+fails-more n f true q e g = let w = g e in record { at = w .at; below = omega (arith, w .below); fails = w .fails }
+
+one-fails : (n : ℕ) (f : ℕ → Bool) → every n f ≡ false → Fails n f
+one-fails zero f e = absurd (true≢false e)
+one-fails (suc n) f e = fails-more n f (f n) refl e (one-fails n f)
+
+byte-fails : (t : Transfer) (f : ℕ → ℕ → Bool) (r c : ℕ) → r < t .height → c < t .width → f r c ≡ false → everyByte t f ≡ false
+byte-fails t f r c hr hc e = every-false (t .height) _ r hr (every-false (t .width) _ c hc e)
+
+-- the three tests of `inMemory`, and which of them fails
+three : (a s b p c : Bool) (X : Type 0) → a && (not s || b) && (not p || c) ≡ false → (a ≡ false → X) → (s ≡ true → b ≡ false → X) → (p ≡ true → c ≡ false → X) → X
+three false s b p c X e x y z = x refl
+three true true false p c X e x y z = y refl refl
+three true true true true c X e x y z = z refl e
+three true false b true c X e x y z = z refl e
+three true true true false c X e x y z = absurd (true≢false e)
+three true false b false c X e x y z = absurd (true≢false e)
+
+outside-found : (n : ℕ) (t : Transfer) → inMemory n t ≡ false → UsedOutside n t
+unfolding inMemory
+outside-found n t e =
+    three (everyByte t (within n t (t .destination))) (usesSource (t .code)) (everyByte t (within n t (t .source))) (usesPattern (t .code))
+    (everyByte t (λ r c. ltb (patternPlace t r c) n)) (UsedOutside n t) e
+    (λ h. let l = one-fails (t .height) _ h in let k = one-fails (t .width) (within n t (t .destination) (l .at)) (l .fails) in destination (l .at) (k .at) (l .below) (k .below) (k .fails))
+    (λ u h. let l = one-fails (t .height) _ h in let k = one-fails (t .width) (within n t (t .source) (l .at)) (l .fails) in source u (l .at) (k .at) (l .below) (k .below) (k .fails))
+    (λ u h. let l = one-fails (t .height) _ h in let k = one-fails (t .width) (λ c. ltb (patternPlace t (l .at) c) n) (l .fails) in pattern u (l .at) (k .at) (l .below) (k .below) (ltb-false _ _ (k .fails)))
+
+outside-counts : (n : ℕ) (t : Transfer) → UsedOutside n t → inMemory n t ≡ false
+unfolding inMemory
+outside-counts n t (destination r c hr hc e) = rw (byte-fails t (within n t (t .destination)) r c hr hc e)
+outside-counts n t (source u r c hr hc e) =
+    rw (byte-fails t (within n t (t .source)) r c hr hc e, u) (ap (λ (b : Bool). b && (not (usesPattern (t .code)) || everyByte t (λ r c. ltb (patternPlace t r c) n))) (and-false (everyByte t (within n t (t .destination)))))
+outside-counts n t (pattern u r c hr hc l) =
+    rw (byte-fails t (λ r c. ltb (patternPlace t r c) n) r c hr hc (le-ltb _ _ l), u)
+    (and-false (everyByte t (within n t (t .destination)) && (not (usesSource (t .code)) || everyByte t (within n t (t .source)))))
+
+-- how the tests lead to the answer
+answer : Bool → Bool → Bool → Answer
+answer l r i = cond l (cond r (cond i Done (Refused Outside)) (Refused Range)) (Refused Length)
+
+answer-3 : (l r i : Bool) → (answerNumber (answer l r i) ≡ 3) ↔ (l ≡ false)
+unfolding answer
+answer-3 false r i = (λ e. refl, λ e. refl)
+answer-3 true false i = (λ e. absurd (eqb-false 5 3 refl e), λ e. absurd (true≢false e))
+answer-3 true true false = (λ e. absurd (eqb-false 4 3 refl e), λ e. absurd (true≢false e))
+answer-3 true true true = (λ e. absurd (eqb-false 0 3 refl e), λ e. absurd (true≢false e))
+
+answer-5 : (l r i : Bool) → (answerNumber (answer l r i) ≡ 5) ↔ ((l ≡ true) × (r ≡ false))
+unfolding answer
+answer-5 false r i = (λ e. absurd (eqb-false 3 5 refl e), λ e. absurd (false≢true (e .0)))
+answer-5 true false i = (λ e. (refl, refl), λ e. refl)
+answer-5 true true false = (λ e. absurd (eqb-false 4 5 refl e), λ e. absurd (true≢false (e .1)))
+answer-5 true true true = (λ e. absurd (eqb-false 0 5 refl e), λ e. absurd (true≢false (e .1)))
+
+answer-4 : (l r i : Bool) → (answerNumber (answer l r i) ≡ 4) ↔ ((l ≡ true) × (r ≡ true) × (i ≡ false))
+unfolding answer
+answer-4 false r i = (λ e. absurd (eqb-false 3 4 refl e), λ e. absurd (false≢true (e .0)))
+answer-4 true false i = (λ e. absurd (eqb-false 5 4 refl e), λ e. absurd (false≢true (e .1)))
+answer-4 true true false = (λ e. (refl, refl, refl), λ e. refl)
+answer-4 true true true = (λ e. absurd (eqb-false 0 4 refl e), λ e. absurd (true≢false (e .2)))
+
+answer-0 : (l r i : Bool) → (answerNumber (answer l r i) ≡ 0) ↔ (l && r && i ≡ true)
+unfolding answer
+answer-0 false r i = (λ e. absurd (eqb-false 3 0 refl e), λ e. absurd (false≢true (and-left false r (and-left (false && r) i e))))
+answer-0 true false i = (λ e. absurd (eqb-false 5 0 refl e), λ e. absurd (false≢true (and-left false i e)))
+answer-0 true true false = (λ e. absurd (eqb-false 4 0 refl e), λ e. absurd (false≢true e))
+answer-0 true true true = (λ e. refl, λ e. refl)
+
+module _ (m : List ℕ) (t : Transfer) where
+  -- 3 is given exactly when the memory length is not allowed
+  pub number-3-exactly : (answerNumber (transferAnswer m t) ≡ 3) ↔ (lengthAllowed (length m) ≡ false)
+  unfolding transferAnswer answer
+  number-3-exactly = answer-3 (lengthAllowed (length m)) (inRange t) (inMemory (length m) t)
+
+  -- 5 exactly when it is, and a transfer number is out of its range
+  pub number-5-exactly : (answerNumber (transferAnswer m t) ≡ 5) ↔ ((lengthAllowed (length m) ≡ true) × (inRange t ≡ false))
+  unfolding transferAnswer answer
+  number-5-exactly = answer-5 (lengthAllowed (length m)) (inRange t) (inMemory (length m) t)
+
+  -- 4 exactly when neither is so, and a byte used lies outside memory
+  pub number-4-exactly : (answerNumber (transferAnswer m t) ≡ 4) ↔ ((lengthAllowed (length m) ≡ true) × (inRange t ≡ true) × UsedOutside (length m) t)
+  unfolding transferAnswer answer
+  number-4-exactly =
+      let e = answer-4 (lengthAllowed (length m)) (inRange t) (inMemory (length m) t) in
+      (λ h. let g = e .0 h in (g .0, g .1, outside-found (length m) t (g .2)), λ h. e .1 (h .0, h .1, outside-counts (length m) t (h .2)))
+
+  -- 0 exactly when it is accepted
+  pub number-0-exactly : (answerNumber (transferAnswer m t) ≡ 0) ↔ (accepted m t ≡ true)
+  unfolding transferAnswer answer
+  number-0-exactly = answer-0 (lengthAllowed (length m)) (inRange t) (inMemory (length m) t)
+
+  -- a refusal leaves the memory as it was
+  pub refused-keeps-memory : accepted m t ≡ false → transferred m t ≡ m
+  unfolding transferred
+  refused-keeps-memory e = rw e

@@ -1,0 +1,316 @@
+// The lines of a transfer, each of which becomes what document 01's bytes, done one at a time, make of it.
+// Where no byte of a line is written before it is read, the order of its bytes does not matter: such a line is done in ascending
+// order, with its pattern laid out beside it, as a move, in place, or from a copy of its source. Any other is done byte by byte.
+// Which of these it is follows from where the line, its source and its pattern lie; each meets the same definition.
+
+ghost use mathlib.Core.Path.{_≡_};
+ghost use mathlib.Core.Bool.{cond, true, false};
+ghost use Prim.Native.Nat.{ℕ, _+_, _-_, _*_, _%_, _^_, _<_, _≤_};
+ghost use mathlib.Core.Logic.{_⊎_};
+ghost use lib.ListN.{length, getD};
+ghost use Rattle.raster.specs.Raster.{usesSource, usesPattern};
+ghost use Rattle.blit.specs.Transfer.{inMemory, inTurn, linesDone, patternLine};
+ghost use Rattle.blit.specs.Working.{Ranges, Part, Apart, SourceStill, PatternStill};
+ghost use Rattle.blit.specs.Working.{moved, byteAt, lineByte, lineLow, bytesFrom, plainByte, blendedByte, takenByte};
+use crate::Transfer;
+use crate::bounds::least;
+use crate::bounds::line_low;
+use crate::bounds::pattern_line;
+
+// An operand that is not looked at counts as 0.
+fn fetch(mem: &[u8], used: bool, at: usize) -> u8
+    requires { ⌜ at < length (now mem) ⌝ }
+    ensures { λ r. ⌜ r ≡ cond used (getD (now (mem .entry)) at 0) 0 ⌝ }
+{
+    if used { mem[at] } else { 0 }
+}
+
+// Byte c of a line.
+fn byte_at(left: bool, low: usize, w: usize, c: usize) -> usize
+    requires { ⌜ (c < w) × (low + w < 2 ^ 63) ⌝ }
+    ensures { λ r. ⌜ (r ≡ byteAt left low w c) × (r < low + w) ⌝ }
+{
+    if left { low + (w - 1 - c) } else { low + c }
+}
+
+// A line, byte by byte in its direction: right whatever overlaps.
+fn one_by_one(
+    mem: &mut [u8],
+    code: u8,
+    source: bool,
+    pattern: bool,
+    left: bool,
+    d: usize,
+    s: usize,
+    p: usize,
+    w: usize,
+)
+    requires { ⌜ (d + w ≤ length (now mem)) × (s + w ≤ length (now mem)) × (length (now mem) < 2 ^ 62) × (p < 2 ^ 62) ⌝ }
+    requires { ⌜ ((c : ℕ) → c < w → p + byteAt left d w c % 8 < length (now mem)) ⌝ }
+    ensures { λ r. ⌜ now (mem .exit) ≡ inTurn w (lineByte code source pattern left d s p w) (now (mem .entry)) ⌝ }
+{
+    let mut c = 0;
+    while c < w {
+        let i = byte_at(left, d, w, c);
+        let j = byte_at(left, s, w, c);
+        let pb = fetch(mem, pattern, p + i % 8);
+        let sb = fetch(mem, source, j);
+        mem[i] = raster::raster_byte(code, pb, sb, mem[i]);
+        c += 1;
+    }
+}
+
+// The w bytes from `from` on, to the front of a buffer.
+fn take(mem: &[u8], buf: &mut [u8], from: usize, w: usize)
+    requires { ⌜ (from + w ≤ length (now mem)) × (w ≤ length (now buf)) ⌝ }
+    ensures { λ r. ⌜ Part 0 (bytesFrom from (now (mem .entry))) 0 w (now (buf .entry)) (now (buf .exit)) ⌝ }
+    ensures { λ r. ⌜ ((k : ℕ) → k < w → getD (now (mem .entry)) (from + k) 0 < 256) ⌝ }
+{
+    let mut c = 0;
+    while c < w {
+        buf[c] = mem[from + c];
+        c += 1;
+    }
+}
+
+// The first w bytes of a buffer, to d.
+fn put(mem: &mut [u8], buf: &[u8], d: usize, w: usize)
+    requires { ⌜ (d + w ≤ length (now mem)) × (w ≤ length (now buf)) ⌝ }
+    ensures { λ r. ⌜ Part d (λ k. getD (now (buf .entry)) k 0) 0 w (now (mem .entry)) (now (mem .exit)) ⌝ }
+{
+    let mut c = 0;
+    while c < w {
+        mem[d + c] = buf[c];
+        c += 1;
+    }
+}
+
+// The raster bytes of a line in place, of a code that does not look at the pattern.
+fn blend_plain(mem: &mut [u8], code: u8, d: usize, s: usize, w: usize)
+    requires { ⌜ (d + w ≤ length (now mem)) × (s + w ≤ length (now mem)) ⌝ }
+    requires { ⌜ (Apart d s w) ⊎ (s ≡ d) ⌝ }
+    ensures { λ r. ⌜ Part d (plainByte code d s (now (mem .entry))) 0 w (now (mem .entry)) (now (mem .exit)) ⌝ }
+{
+    let mut c = 0;
+    while c < w {
+        mem[d + c] = raster::raster_byte(code, 0, mem[s + c], mem[d + c]);
+        c += 1;
+    }
+}
+
+// The raster bytes of a line in place, with its pattern in `pat` from f on.
+fn blend(mem: &mut [u8], pat: &[u8], code: u8, source: bool, d: usize, s: usize, f: usize, w: usize)
+    requires { ⌜ (d + w ≤ length (now mem)) × (s + w ≤ length (now mem)) × (f + w ≤ length (now pat)) ⌝ }
+    requires { ⌜ (source ≡ true → Apart d s w) ⌝ }
+    ensures { λ r. ⌜ Part d (blendedByte code source d s f (now (pat .entry)) (now (mem .entry))) 0 w (now (mem .entry)) (now (mem .exit)) ⌝ }
+{
+    let mut c = 0;
+    while c < w {
+        let sb = fetch(mem, source, s + c);
+        mem[d + c] = raster::raster_byte(code, pat[f + c], sb, mem[d + c]);
+        c += 1;
+    }
+}
+
+// The raster bytes of a line whose source was taken to `src`.
+fn blend_taken(
+    mem: &mut [u8],
+    pat: &[u8],
+    src: &[u8],
+    code: u8,
+    pattern: bool,
+    d: usize,
+    f: usize,
+    w: usize,
+)
+    requires { ⌜ (d + w ≤ length (now mem)) × (w ≤ length (now src)) × (f + w ≤ length (now pat)) ⌝ }
+    ensures { λ r. ⌜ Part d (takenByte code pattern d f (now (pat .entry)) (now (src .entry)) (now (mem .entry))) 0 w (now (mem .entry)) (now (mem .exit)) ⌝ }
+{
+    let mut c = 0;
+    while c < w {
+        let pb = fetch(pat, pattern, f + c);
+        mem[d + c] = raster::raster_byte(code, pb, src[c], mem[d + c]);
+        c += 1;
+    }
+}
+
+// From k on each byte is the one k before it: what repeats after eight goes on to n.
+fn spread(buf: &mut [u8], k: usize, n: usize)
+    requires { ⌜ (1 ≤ k) × (k % 8 ≡ 0) × (n ≤ length (now buf)) ⌝ }
+    ensures { λ r. ⌜ ((g : ℕ → ℕ) → ((x : ℕ) → x < k → x < n → getD (now (buf .entry)) x 0 ≡ g (x % 8)) → (x : ℕ) → x < n → getD (now (buf .exit)) x 0 ≡ g (x % 8)) ⌝ }
+{
+    let mut c = k;
+    while c < n {
+        buf[c] = buf[c - k];
+        c += 1;
+    }
+}
+
+// The pattern's eight bytes from p, again and again, to n bytes of a buffer.
+fn tile(mem: &[u8], buf: &mut [u8], used: bool, p: usize, n: usize)
+    requires { ⌜ (used ≡ true → p + 8 ≤ length (now mem)) ⌝ }
+    requires { ⌜ (16 ≤ length (now buf)) × (n ≤ length (now buf)) ⌝ }
+    ensures { λ r. ⌜ (used ≡ true → (x : ℕ) → x < n → getD (now (buf .exit)) x 0 ≡ getD (now (mem .entry)) (p + x % 8) 0) ⌝ }
+{
+    if !used {
+        return;
+    }
+    let mut row = [0u8; 8];
+    take(mem, &mut row, p, 8);
+    put(buf, &row, 0, 8);
+    put(buf, &row, 8, 8);
+    spread(buf, 16, least(n, 64));
+    spread(buf, 64, n);
+}
+
+// A line of code CCh, by way of a buffer.
+fn copy(mem: &mut [u8], d: usize, s: usize, w: usize)
+    requires { ⌜ (d + w ≤ length (now mem)) × (s + w ≤ length (now mem)) × (w ≤ 8192) ⌝ }
+    ensures { λ r. ⌜ Part d (bytesFrom s (now (mem .entry))) 0 w (now (mem .entry)) (now (mem .exit)) ⌝ }
+    ensures { λ r. ⌜ ((k : ℕ) → k < w → getD (now (mem .entry)) (s + k) 0 < 256) ⌝ }
+{
+    let mut buf = [0u8; 8192];
+    take(mem, &mut buf, s, w);
+    put(mem, &buf, d, w);
+}
+
+fn source_still(left: bool, d: usize, s: usize, w: usize) -> bool
+    requires { ⌜ (d + w < 2 ^ 63) × (s + w < 2 ^ 63) ⌝ }
+    ensures { λ r. ⌜ (r ≡ true → SourceStill left d s w) ⌝ }
+{
+    if left {
+        return (s <= d) | (d + w <= s);
+    }
+    (d <= s) | (s + w <= d)
+}
+
+fn pattern_still(n: usize, d: usize, p: usize, w: usize) -> bool
+    requires { ⌜ (d + w < 2 ^ 63) × (p < 2 ^ 62) ⌝ }
+    ensures { λ r. ⌜ (r ≡ true → PatternStill n d p w) ⌝ }
+{
+    (p + 8 <= n) & ((p + 8 <= d) | (d + w <= p))
+}
+
+fn apart(source: bool, d: usize, s: usize, w: usize) -> bool
+    requires { ⌜ (d + w < 2 ^ 63) × (s + w < 2 ^ 63) ⌝ }
+    ensures { λ r. ⌜ (r ≡ true → source ≡ true → Apart d s w) ⌝ }
+{
+    !source | (d + w <= s) | (s + w <= d)
+}
+
+// A line, by the quickest way that it allows.
+fn line(
+    mem: &mut [u8],
+    pat: &mut [u8],
+    src: &mut [u8],
+    code: u8,
+    source: bool,
+    pattern: bool,
+    left: bool,
+    d: usize,
+    s: usize,
+    p: usize,
+    w: usize,
+)
+    requires { ⌜ (d + w ≤ length (now mem)) × (s + w ≤ length (now mem)) × (length (now mem) < 2 ^ 62) × (p < 2 ^ 62) × (w ≤ 8191) ⌝ }
+    requires { ⌜ (w + 8 ≤ length (now pat)) × (16 ≤ length (now pat)) × (w ≤ length (now src)) ⌝ }
+    requires { ⌜ ((c : ℕ) → c < w → p + byteAt left d w c % 8 < length (now mem)) ⌝ }
+    requires { ⌜ (source ≡ usesSource code) × (pattern ≡ usesPattern code) × (source ≡ false → s ≡ d) ⌝ }
+    ensures { λ r. ⌜ now (mem .exit) ≡ inTurn w (lineByte code source pattern left d s p w) (now (mem .entry)) ⌝ }
+{
+    let still = source_still(left, d, s, w) & (!pattern | pattern_still(mem.len(), d, p, w));
+    if !still {
+        one_by_one(mem, code, source, pattern, left, d, s, p, w);
+        return;
+    }
+    if code == 0xCC {
+        copy(mem, d, s, w);
+        return;
+    }
+    tile(mem, pat, pattern, p, d % 8 + w);
+    if !apart(source, d, s, w) {
+        take(mem, src, s, w);
+        blend_taken(mem, pat, src, code, pattern, d, d % 8, w);
+        return;
+    }
+    if pattern {
+        blend(mem, pat, code, source, d, s, d % 8, w);
+        return;
+    }
+    blend_plain(mem, code, d, s, w);
+}
+
+fn source_low(t: Transfer, source: bool, r: usize, d: usize) -> usize
+    requires { ⌜ Ranges t ⌝ }
+    requires { ⌜ r ≤ 8191 ⌝ }
+    requires { ⌜ (source ≡ true → cond (t .upward) (r * t .source .span) 0 ≤ t .source .address) ⌝ }
+    requires { ⌜ (source ≡ true → cond (t .leftward) (t .width - 1) 0 ≤ moved (t .upward) (t .source .address) (r * t .source .span)) ⌝ }
+    ensures { λ res. ⌜ res ≡ cond source (lineLow t (t .source) r) d ⌝ }
+{
+    if source {
+        return line_low(t, t.source, r);
+    }
+    d
+}
+
+fn pattern_low(t: Transfer, pattern: bool, r: usize) -> usize
+    requires { ⌜ r ≤ 8191 ⌝ }
+    ensures { λ res. ⌜ (res ≡ cond pattern (patternLine t r) 0) × (res < 2 ^ 33) ⌝ }
+{
+    if pattern {
+        return pattern_line(t, r);
+    }
+    0
+}
+
+// The lines, one after the other.
+fn all_lines(mem: &mut [u8], pat: &mut [u8], src: &mut [u8], t: Transfer)
+    requires { ⌜ Ranges t ⌝ }
+    requires { ⌜ (4096 ≤ length (now mem)) × (length (now mem) ≤ 2097152) ⌝ }
+    requires { ⌜ inMemory (length (now mem)) t ≡ true ⌝ }
+    requires { ⌜ (t .width + 8 ≤ length (now pat)) × (16 ≤ length (now pat)) × (t .width ≤ length (now src)) ⌝ }
+    ensures { λ r. ⌜ now (mem .exit) ≡ linesDone t (now (mem .entry)) ⌝ }
+{
+    let source = raster::uses_source(t.code);
+    let pattern = raster::uses_pattern(t.code);
+    let h = t.height as usize;
+    let w = t.width as usize;
+    let mut r = 0;
+    while r < h {
+        let d = line_low(t, t.destination, r);
+        let s = source_low(t, source, r, d);
+        let p = pattern_low(t, pattern, r);
+        line(
+            mem,
+            pat,
+            src,
+            t.code,
+            source,
+            pattern,
+            t.leftward,
+            d,
+            s,
+            p,
+            w,
+        );
+        r += 1;
+    }
+}
+
+// A narrow transfer has small buffers, which are quickly made.
+pub(crate) fn run(mem: &mut [u8], t: Transfer)
+    requires { ⌜ Ranges t ⌝ }
+    requires { ⌜ (4096 ≤ length (now mem)) × (length (now mem) ≤ 2097152) ⌝ }
+    requires { ⌜ inMemory (length (now mem)) t ≡ true ⌝ }
+    ensures { λ r. ⌜ now (mem .exit) ≡ linesDone t (now (mem .entry)) ⌝ }
+{
+    if t.width <= 64 {
+        let mut pat = [0u8; 72];
+        let mut src = [0u8; 64];
+        all_lines(mem, &mut pat, &mut src, t);
+        return;
+    }
+    let mut pat = [0u8; 8200];
+    let mut src = [0u8; 8192];
+    all_lines(mem, &mut pat, &mut src, t);
+}

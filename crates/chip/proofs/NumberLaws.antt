@@ -1,0 +1,123 @@
+-- The numbers of port accesses. Document 01, "Numbers returned": each of 0, 1 and 2 is given exactly when the table says, closed
+-- ports before anything else; and a refused access hands back the state as it was, a read with FFh.
+use Prim.Native.Nat.{ℕ}
+use native.Mathlib.Omega.{arith}
+use mathlib.Core.Bool.{Bool, true, false, cond}
+use mathlib.Core.Path.{_≡_, refl, ap, _∙_}
+use mathlib.Core.Logic.{_↔_}
+use Rattle.ports.specs.Ports.{target}
+use Rattle.ports.specs.declared.Target.{Target}
+use Rattle.ports.specs.declared.Target.the-variants.{Index, Data, ReadIndex, WriteIndex, Paldata, NotPicked, NotListed}
+use Rattle.chip.specs.State.{named}
+use Rattle.chip.specs.Names.{portsOpen, colour}
+use Rattle.chip.specs.Access.{numberOf, isListed, accessNumber, writeTo, readFrom, portWritten, portRead, wrote, seen}
+use Rattle.chip.specs.declared.Chip.{Chip}
+use Rattle.chip.specs.declared.access.Answer.the-variants.{Closed}
+use Rattle.chip.proofs.AccessLaws.{write-closed, read-closed, write-open, read-open}
+
+-- the number by where a port leads
+target-number : (t : Target) (c : Chip) (v : ℕ)
+    → (numberOf (writeTo t c v .answer) ≡ cond (isListed t) 0 1) × (numberOf (readFrom t c .answer) ≡ cond (isListed t) 0 1)
+target-number (Index g) c v = (refl, refl)
+target-number (Data g) c v = (refl, refl)
+target-number ReadIndex c v = (refl, refl)
+target-number WriteIndex c v = (refl, refl)
+target-number Paldata c v = (refl, refl)
+target-number NotPicked c v = (refl, refl)
+target-number NotListed c v = (refl, refl)
+
+not-listed : (t : Target) → isListed t ≡ false → t ≡ NotListed
+not-listed (Index g) h = cc
+not-listed (Data g) h = cc
+not-listed ReadIndex h = cc
+not-listed WriteIndex h = cc
+not-listed Paldata h = cc
+not-listed NotPicked h = cc
+not-listed NotListed h = refl
+
+-- the number that an answer has is the one that the definition gives
+pub write-number : (c : Chip) (p v : ℕ) → numberOf (portWritten c p v .answer) ≡ accessNumber true c p
+unfolding portWritten accessNumber
+write-number c p v = go (portsOpen (named c))
+  where
+    t : Target
+    t = target (colour (named c)) true p
+
+    go : (z : Bool) → numberOf (cond z (writeTo t c v) (wrote Closed c) .answer) ≡ cond z (cond (isListed t) 0 1) 2
+    go true = target-number t c v .0
+    go false = refl
+
+pub read-number : (c : Chip) (p : ℕ) → numberOf (portRead c p .answer) ≡ accessNumber false c p
+unfolding portRead accessNumber
+read-number c p = go (portsOpen (named c))
+  where
+    t : Target
+    t = target (colour (named c)) false p
+
+    go : (z : Bool) → numberOf (cond z (readFrom t c) (seen Closed 0xFF c) .answer) ≡ cond z (cond (isListed t) 0 1) 2
+    go true = target-number t c 0 .1
+    go false = refl
+
+-- each number exactly when: 2 if the ports are closed, 1 if they are open and the port or its direction is not listed, 0 if they
+-- are open and it is
+pub record Exact (write : Bool) (c : Chip) (p number : ℕ) : Type 0 where
+  pub closed : number ≡ 2 ↔ portsOpen (named c) ≡ false
+  pub unlisted : number ≡ 1 ↔ (portsOpen (named c) ≡ true) × (target (colour (named c)) write p ≡ NotListed)
+  pub done : number ≡ 0 ↔ (portsOpen (named c) ≡ true) × (target (colour (named c)) write p ≡ NotListed → ⊥)
+
+differ : {A : Type 0} {z : Bool} → z ≡ true → z ≡ false → A
+differ e f = let h : _≡_ {A = ℕ} 0 1 = cc in absurd (omega arith)
+
+pub number-exact : (write : Bool) (c : Chip) (p : ℕ) → Exact write c p (accessNumber write c p)
+unfolding accessNumber
+number-exact write c p = go (portsOpen (named c)) refl (isListed t) refl
+  where
+    t : Target
+    t = target (colour (named c)) write p
+
+    go : (z : Bool) → portsOpen (named c) ≡ z → (y : Bool) → isListed t ≡ y → Exact write c p (cond z (cond y 0 1) 2)
+    go true e true f = record {
+      closed = (λ h. absurd (omega arith), λ h. differ e h);
+      unlisted = (λ h. absurd (omega arith), λ h. differ f (ap isListed (h .1)));
+      done = (λ h. (e, λ none. differ f (ap isListed none)), λ h. refl);
+    }
+    go true e false f = record {
+      closed = (λ h. absurd (omega arith), λ h. differ e h);
+      unlisted = (λ h. (e, not-listed t f), λ h. refl);
+      done = (λ h. absurd (omega arith), λ h. absurd (h .1 (not-listed t f)));
+    }
+    go false e y f = record {
+      closed = (λ h. e, λ h. refl);
+      unlisted = (λ h. absurd (omega arith), λ h. differ (h .0) e);
+      done = (λ h. absurd (omega arith), λ h. differ (h .0) e);
+    }
+
+pub write-exact : (c : Chip) (p v : ℕ) → Exact true c p (numberOf (portWritten c p v .answer))
+write-exact c p v = rw (write-number c p v) (number-exact true c p)
+
+pub read-exact : (c : Chip) (p : ℕ) → Exact false c p (numberOf (portRead c p .answer))
+read-exact c p = rw (read-number c p) (number-exact false c p)
+
+-- a refused access hands back the state as it was, and a refused read FFh
+refused : (write : Bool) (c : Chip) (p : ℕ) (A : Type 0) → (accessNumber write c p ≡ 0 → ⊥)
+    → (portsOpen (named c) ≡ false → A) → (portsOpen (named c) ≡ true → target (colour (named c)) write p ≡ NotListed → A) → A
+unfolding accessNumber
+refused write c p A no-zero shut unlisted = go (portsOpen (named c)) refl (isListed t) refl no-zero
+  where
+    t : Target
+    t = target (colour (named c)) write p
+
+    go : (z : Bool) → portsOpen (named c) ≡ z → (y : Bool) → isListed t ≡ y → (_≡_ {A = ℕ} (cond z (cond y 0 1) 2) 0 → ⊥) → A
+    go true e true f h = absurd (h refl)
+    go true e false f h = unlisted e (not-listed t f)
+    go false e y f h = shut e
+
+pub write-refused : (c : Chip) (p v : ℕ) → (numberOf (portWritten c p v .answer) ≡ 0 → ⊥) → portWritten c p v .chip ≡ c
+write-refused c p v other =
+    refused true c p _ (λ h. other (write-number c p v ∙ h)) (λ shut. rw (write-closed c p shut v) refl)
+    (λ free unlisted. rw (write-open c p free v, unlisted) refl)
+
+pub read-refused : (c : Chip) (p : ℕ) → (numberOf (portRead c p .answer) ≡ 0 → ⊥) → (portRead c p .value ≡ 0xFF) × (portRead c p .chip ≡ c)
+read-refused c p other =
+    refused false c p _ (λ h. other (read-number c p ∙ h)) (λ shut. rw (read-closed c p shut) (refl, refl))
+    (λ free unlisted. rw (read-open c p free, unlisted) (refl, refl))

@@ -1,0 +1,130 @@
+-- What a reset leaves: each register its reset byte, at all 256 indexes; the pins in XR08, XR70 and XR71; 00h at an unlisted
+-- index; and a byte in each. A group's bank is one list filled from its reset bytes, and the rest follows from that.
+use Prim.Native.Nat.{ℕ, zero, suc, _<_, _≤_}
+use native.Mathlib.Omega.{arith}
+use mathlib.Core.Bool.{Bool, true, false, cond}
+use mathlib.Core.Path.{_≡_, refl, sym, ap, _∙_}
+use mathlib.Core.List.{List, [], _∷_, _++_}
+use lib.Dec.{eqb, ltb}
+use lib.ListN.{getD, length, length-append, List·getD-append, List·getD-eq-default}
+use lib.Seq.{getD-at}
+use lib.Bits.{bitAnd, bitOr, and-le-l, or-lt}
+use borrow.Author.Tests.{eqb-true, eqb-false, ltb-true, ltb-false}
+use Rattle.registers.specs.Extension.{XR}
+use Rattle.registers.specs.Groups.{is, rowOf, resetOf}
+use Rattle.registers.proofs.TableLaws.{byte-rows}
+use Rattle.registers.specs.declared.Row.{Row}
+use Rattle.registers.specs.declared.Row.the-variants.{Listed, Unlisted}
+use Rattle.registers.specs.declared.Group.{Group}
+use Rattle.registers.specs.declared.Group.the-variants.{Cr, Sr, Gr, Xr, Fr, Mr, Msr, Palmask}
+use Rattle.chip.specs.State.{named}
+use Rattle.chip.specs.Names.{register}
+use Rattle.chip.specs.Reset.{resetByte, filled, reset}
+use Rattle.chip.proofs.Banks.{bank, place, room, place-room, register-bank, is-same}
+use Rattle.chip.proofs.NameLaws.{Bytes}
+
+pub length-filled : (f : ℕ → ℕ) (n : ℕ) → length (filled f n) ≡ n
+unfolding filled
+length-filled f zero = refl
+length-filled f (suc n) = let h = length-filled f n in simp length-append (omega arith)
+
+filled-at : (f : ℕ → ℕ) (n i : ℕ) → i < n → getD (filled f n) i 0 ≡ f i
+unfolding filled
+filled-at f zero i h = absurd (omega arith)
+filled-at f (suc n) i h = go (eqb i n) refl (filled-at f n i)
+  where
+    go : (z : Bool) → eqb i n ≡ z → (i < n → getD (filled f n) i 0 ≡ f i) → getD (filled f n ++ (f n ∷ [])) i 0 ≡ f i
+    go true e below = rw (eqb-true i n e) (getD-at (filled f n) (f n) [] 0 n (length-filled f n))
+    go false e below =
+        let ne : i ≡ n → ⊥ = eqb-false i n e in
+        let room : i < length (filled f n) = rw (length-filled f n) (omega arith) in
+        List·getD-append (filled f n) (f n ∷ []) 0 i room ∙ below (omega arith)
+
+-- a group's bank after a reset
+filled-one : (f : ℕ → ℕ) → _≡_ {A = List ℕ} (f 0 ∷ []) (filled f 1)
+unfolding filled
+filled-one f = refl
+
+pub bank-reset : (first second : ℕ) (g : Group) → bank g (named (reset first second)) ≡ filled (resetByte first second g) (room g)
+unfolding reset
+bank-reset p q Cr = refl
+bank-reset p q Sr = refl
+bank-reset p q Gr = refl
+bank-reset p q Xr = refl
+bank-reset p q Fr = refl
+bank-reset p q Mr = refl
+bank-reset p q Msr = filled-one (resetByte p q Msr)
+bank-reset p q Palmask = filled-one (resetByte p q Palmask)
+
+-- MSR and PALMASK have one row, whatever the index
+reset-place : (p q : ℕ) (g : Group) (i : ℕ) → resetByte p q g (place g i) ≡ resetByte p q g i
+unfolding resetByte rowOf
+reset-place p q Cr i = refl
+reset-place p q Sr i = refl
+reset-place p q Gr i = refl
+reset-place p q Xr i = refl
+reset-place p q Fr i = refl
+reset-place p q Mr i = refl
+reset-place p q Msr i = refl
+reset-place p q Palmask i = refl
+
+-- a register after a reset
+register-filled : (p q : ℕ) (g : Group) (i : ℕ) → register g (named (reset p q)) i ≡ getD (filled (resetByte p q g) (room g)) (place g i) 0
+register-filled p q g i = register-bank g (named (reset p q)) i ∙ ap (λ (l : List ℕ). getD l (place g i) 0) (bank-reset p q g)
+
+pub register-reset : (first second : ℕ) (g : Group) (i : ℕ) → i < 0x100 → register g (named (reset first second)) i ≡ resetByte first second g i
+register-reset p q g i h =
+    register-filled p q g i ∙ filled-at (resetByte p q g) (room g) (place g i) (place-room g i h) ∙ reset-place p q g i
+
+-- the registers that show the pins
+pub XR-pins-reset : (first second : ℕ)
+    → (resetByte first second Xr 0x08 ≡ bitAnd first 0x02) × (resetByte first second Xr 0x70 ≡ bitOr first 0x01) × (resetByte first second Xr 0x71 ≡ second)
+unfolding resetByte
+XR-pins-reset first second = (refl, refl, refl)
+
+-- 00h at an unlisted index
+XR-pins-listed : (i : ℕ) → rowOf Xr i ≡ Unlisted → (eqb i 0x08 ≡ false) × (eqb i 0x70 ≡ false) × (eqb i 0x71 ≡ false)
+unfolding rowOf XR
+XR-pins-listed i none = (go 0x08 refl _ refl, go 0x70 refl _ refl, go 0x71 refl _ refl)
+  where
+    listed : Row → Bool
+    listed (Listed w r) = true
+    listed Unlisted = false
+
+    go : (k : ℕ) → listed (rowOf Xr k) ≡ true → (z : Bool) → eqb i k ≡ z → eqb i k ≡ false
+    go k has true e = cc (sym has ∙ ap (λ (x : ℕ). listed (rowOf Xr x)) (sym (eqb-true i k e)) ∙ ap listed none)
+    go k has false e = e
+
+pub reset-unlisted : (first second : ℕ) (g : Group) (i : ℕ) → rowOf g i ≡ Unlisted → resetByte first second g i ≡ 0x00
+unfolding resetByte
+reset-unlisted first second g i none = go (is g Xr) refl
+  where
+    go : (z : Bool) → is g Xr ≡ z
+        → cond z (cond (eqb i 0x08) (bitAnd first 0x02) (cond (eqb i 0x70) (bitOr first 0x01) (cond (eqb i 0x71) second (resetOf g i)))) (resetOf g i) ≡ 0x00
+    go true e = let (a, b, d) = XR-pins-listed i (rw (is-same g Xr e) at none) in rw (a, b, d, none)
+    go false e = rw none
+
+-- a byte in every register
+resetByte-byte : (first second : ℕ) → first < 0x100 → second < 0x100 → (g : Group) (i : ℕ) → resetByte first second g i < 0x100
+unfolding resetByte
+resetByte-byte first second hp hq g i = go (is g Xr) (eqb i 0x08) (eqb i 0x70) (eqb i 0x71)
+  where
+    go : (x a b d : Bool)
+        → cond x (cond a (bitAnd first 0x02) (cond b (bitOr first 0x01) (cond d second (resetOf g i)))) (resetOf g i) < 0x100
+    go true true b d = let h : bitAnd first 0x02 ≤ first = and-le-l first 0x02 in omega arith
+    go true false true d = or-lt 8 first 0x01 hp (omega arith)
+    go true false false true = hq
+    go true false false false = byte-rows g i .1
+    go false a b d = byte-rows g i .1
+
+filled-bytes : (f : ℕ → ℕ) (n i : ℕ) → ((k : ℕ) → f k < 0x100) → getD (filled f n) i 0 < 0x100
+filled-bytes f n i bytes = go (ltb i n) refl
+  where
+    go : (z : Bool) → ltb i n ≡ z → getD (filled f n) i 0 < 0x100
+    go true e = rw (filled-at f n i (ltb-true i n e)) (bytes i)
+    go false e =
+        let past : length (filled f n) ≤ i = rw (length-filled f n) (ltb-false i n e) in
+        rw (List·getD-eq-default (filled f n) 0 past) (omega arith)
+
+pub reset-bytes : (first second : ℕ) → first < 0x100 → second < 0x100 → Bytes (named (reset first second))
+reset-bytes p q hp hq g i = rw (register-filled p q g i) (filled-bytes (resetByte p q g) (room g) (place g i) (resetByte-byte p q hp hq g))

@@ -1,0 +1,149 @@
+-- Accesses keep sizes: no table and not the palette gets longer or shorter. So in every state that they reach from a reset each
+-- register with an index below 256 has its place, and the palette has 256 entries: what `received-same`, `received-bit` and
+-- `coloured-same` ask for. No index passes 255 there, so this holds of the register and the entry that an index names.
+use Prim.Native.Nat.{ℕ, _<_}
+use native.Mathlib.Omega.{arith}
+use mathlib.Core.Bool.{Bool, true, false, cond}
+use mathlib.Core.Path.{_≡_, refl, ap, _∙_}
+use mathlib.Core.List.{List}
+use lib.Dec.{eqb}
+use lib.ListN.{length, set, length-set, length-replicate}
+use Rattle.registers.specs.Groups.{is}
+use Rattle.registers.specs.WriteRule.{written}
+use Rattle.registers.specs.declared.Group.{Group}
+use Rattle.registers.specs.declared.Group.the-variants.{Cr, Sr, Gr, Xr, Fr, Mr, Msr, Palmask}
+use Rattle.ports.specs.Ports.{target}
+use Rattle.ports.specs.declared.Target.{Target}
+use Rattle.ports.specs.declared.Target.the-variants.{Index, Data, ReadIndex, WriteIndex, Paldata, NotPicked, NotListed}
+use Rattle.chip.specs.State.{Named, named, indexOf, withIndex}
+use Rattle.chip.specs.Names.{register, received, writableAt, portsOpen, colour, eightBit}
+use Rattle.chip.specs.Palette.{rgb, byMode, entry, coloured, held, moved}
+use Rattle.chip.specs.Access.{writeTo, portWritten}
+use Rattle.chip.specs.Reset.{resetByte, reset}
+use Rattle.chip.specs.Reach.{Reach, fresh, wrote, saw}
+use Rattle.chip.specs.declared.Chip.{Chip}
+use Rattle.chip.specs.declared.Indexes.{Indexes}
+use Rattle.chip.specs.declared.Loading.{Loading}
+use Rattle.chip.proofs.Banks.{bank, place, room, place-room, bank-replaced, bank-colours}
+use Rattle.chip.proofs.NameLaws.{Has, received-same}
+use Rattle.chip.proofs.AccessLaws.{write-cases, state-read, write-data, named-written, read-keeps-all}
+use Rattle.chip.proofs.PaletteLaws.{coloured-same, after, colour-by-ports}
+use Rattle.chip.proofs.ResetLaws.{length-filled, bank-reset}
+
+-- a register that receives a byte, and a colour that is stored, leave every table and the palette as long as it was
+set-if : (z : Bool) (l : List ℕ) (i b : ℕ) → length (cond z (set l i b) l) ≡ length l
+set-if true l i b = length-set l i b
+set-if false l i b = refl
+
+pub length-received : (h g : Group) (n : Named) (i v : ℕ) → length (bank h (received g n i v)) ≡ length (bank h n)
+unfolding received
+length-received h g n i v = ap length (bank-replaced h g n i _) ∙ set-if (is g h) (bank h n) (place h i) _
+
+pub length-coloured : (n : Named) (e r g b : ℕ) → length (coloured n e r g b .palette) ≡ length (n .palette)
+unfolding coloured
+length-coloured n e r g b = length-set (n .palette) e _
+
+-- so does every port write
+pub length-written : (h : Group) (c : Chip) (p v : ℕ) → length (bank h (named (portWritten c p v .chip))) ≡ length (bank h (named c))
+unfolding coloured
+length-written h c p v =
+    named-written (λ n. length (bank h n) ≡ length (bank h (named c))) c v refl
+    (λ g. length-received h g (named c) (indexOf g (c .indexes)) v) (λ e r g b. ap length (bank-colours h (named c) _)) p
+
+pub length-palette-written : (c : Chip) (p v : ℕ) → length (portWritten c p v .chip .palette) ≡ length (c .palette)
+unfolding received
+length-palette-written c p v =
+    named-written (λ n. length (n .palette) ≡ length (c .palette)) c v refl (λ g. refl) (length-coloured (named c)) p
+
+-- the sizes of a reached state
+reach-room : {first second : ℕ} {c : Chip} → Reach first second c → (g : Group) → length (bank g (named c)) ≡ room g
+reach-room {first} {second} fresh g = ap length (bank-reset first second g) ∙ length-filled (resetByte first second g) (room g)
+reach-room (wrote {c} p v hv r) g = length-written g c p v ∙ reach-room r g
+reach-room (saw {c} p r) g = ap (λ (n : Named). length (bank g n)) (read-keeps-all c p .0) ∙ reach-room r g
+
+pub reach-has : {first second : ℕ} {c : Chip} → Reach first second c → (g : Group) (i : ℕ) → i < 0x100 → Has g (named c) i
+reach-has r g i h = rw (reach-room r g) (place-room g i h)
+
+pub reach-palette : {first second : ℕ} {c : Chip} → Reach first second c → length (c .palette) ≡ 256
+unfolding reset
+reach-palette fresh = length-replicate 256 (rgb 0 0 0)
+reach-palette (wrote {c} p v hv r) = length-palette-written c p v ∙ reach-palette r
+reach-palette (saw {c} p r) = ap (λ (n : Named). length (n .palette)) (read-keeps-all c p .0) ∙ reach-palette r
+
+-- no index passes 255: the six of the groups, and the palette's
+record Within (c : Chip) : Type 0 where
+  groups : (g : Group) → indexOf g (c .indexes) < 0x100
+  colours : c .loading .index < 0x100
+
+either : {A : Type 0} (f : A → ℕ) (z : Bool) (a b : A) → f a < 0x100 → f b < 0x100 → f (cond z a b) < 0x100
+either f true a b ha hb = ha
+either f false a b ha hb = hb
+
+index-below : (g h : Group) (x : Indexes) (v : ℕ) → v < 0x100 → indexOf h x < 0x100 → indexOf h (withIndex g x v) < 0x100
+index-below g Cr x v new old = either (λ i. i) (is g Cr) v (x .cr) new old
+index-below g Sr x v new old = either (λ i. i) (is g Sr) v (x .sr) new old
+index-below g Gr x v new old = either (λ i. i) (is g Gr) v (x .gr) new old
+index-below g Xr x v new old = either (λ i. i) (is g Xr) v (x .xr) new old
+index-below g Fr x v new old = either (λ i. i) (is g Fr) v (x .fr) new old
+index-below g Mr x v new old = either (λ i. i) (is g Mr) v (x .mr) new old
+index-below g Msr x v new old = old
+index-below g Palmask x v new old = old
+
+moved-below : (l : Loading) → l .index < 0x100 → moved l .index < 0x100
+moved-below l h = either (λ (m : Loading). m .index) (eqb (l .position) 2) _ _ (omega arith) h
+
+held-below : (l : Loading) (v : ℕ) → l .index < 0x100 → held l v .index < 0x100
+held-below l v h =
+    either (λ (m : Loading). m .index) (eqb (l .position) 2) _ _ h (either (λ (m : Loading). m .index) (eqb (l .position) 1) _ _ h h)
+
+write-within : (t : Target) (c : Chip) (v : ℕ) → v < 0x100 → Within c → Within (writeTo t c v .chip)
+write-within (Index g) c v hv w = record { groups = λ h. index-below g h (c .indexes) v hv (w .groups h); colours = w .colours }
+write-within (Data g) c v hv w = record { groups = w .groups; colours = w .colours }
+write-within ReadIndex c v hv w = record { groups = w .groups; colours = hv }
+write-within WriteIndex c v hv w = record { groups = w .groups; colours = hv }
+write-within Paldata c v hv w = record { groups = w .groups; colours = moved-below (held (c .loading) v) (held-below (c .loading) v (w .colours)) }
+write-within NotPicked c v hv w = w
+write-within NotListed c v hv w = w
+
+fresh-within : (first second : ℕ) → Within (reset first second)
+unfolding reset
+fresh-within first second = record { groups = zeros; colours = omega arith }
+  where
+    zeros : (g : Group) → indexOf g (reset first second .indexes) < 0x100
+    zeros Cr = omega arith
+    zeros Sr = omega arith
+    zeros Gr = omega arith
+    zeros Xr = omega arith
+    zeros Fr = omega arith
+    zeros Mr = omega arith
+    zeros Msr = omega arith
+    zeros Palmask = omega arith
+
+reach-within : {first second : ℕ} {c : Chip} → Reach first second c → Within c
+reach-within {first} {second} fresh = fresh-within first second
+reach-within (wrote {c} p v hv r) = let w = reach-within r in write-cases Within c p v w (λ t. write-within t c v hv w)
+reach-within (saw {c} p r) =
+    let w = reach-within r in
+    state-read Within c p w (record { groups = w .groups; colours = moved-below (c .loading) (w .colours) })
+
+-- so the register that a data port works on has its place, and the entry that the palette's index names is one of the 256
+pub reach-has-current : {first second : ℕ} {c : Chip} → Reach first second c → (g : Group) → Has g (named c) (indexOf g (c .indexes))
+reach-has-current {c = c} r g = reach-has r g (indexOf g (c .indexes)) (reach-within r .groups g)
+
+pub reach-entry : {first second : ℕ} {c : Chip} → Reach first second c → c .loading .index < length (c .palette)
+reach-entry r = rw (reach-palette r) (reach-within r .colours)
+
+-- a data port's write and three bytes to PALDATA, in a reached state with open ports: the register reads the write rule's byte, the
+-- entry holds the colour by the mode
+module _ {first second : ℕ} {c : Chip} (r : Reach first second c) (free : portsOpen (named c) ≡ true) where
+  pub data-written : (g : Group) (p v : ℕ) → target (colour (named c)) true p ≡ Data g
+      → register g (named (portWritten c p v .chip)) (indexOf g (c .indexes))
+      ≡ written (register g (named c) (indexOf g (c .indexes))) v (writableAt g (named c) (indexOf g (c .indexes)))
+  data-written g p v leads = rw (write-data c p free g v leads) (received-same g (named c) (indexOf g (c .indexes)) v (reach-has-current r g))
+
+  pub colour-written : (e red green blue : ℕ) → e < 0x100
+      → entry (named (after (after (after (portWritten c 0x3C8 e .chip) red) green) blue)) e
+      ≡ rgb (byMode (eightBit (named c)) red) (byMode (eightBit (named c)) green) (byMode (eightBit (named c)) blue)
+  colour-written e red green blue h =
+      ap (λ (d : Chip). entry (named d) e) (colour-by-ports c e free red green blue)
+      ∙ coloured-same (named c) e red green blue (rw (reach-palette r) h)

@@ -1,0 +1,3 @@
+pub mod Raster
+pub mod Laws
+pub mod Choice

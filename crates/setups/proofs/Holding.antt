@@ -1,0 +1,26 @@
+-- Every row of the table of set-ups holds, computed from the definitions.
+use mathlib.Core.Bool.{true}
+use mathlib.Core.Path.{_≡_, refl}
+use Rattle.registers.specs.CrtController.{CR}
+use Rattle.registers.specs.Extension.{XR}
+use Rattle.registers.specs.Multimedia.{MR}
+use Rattle.registers.specs.Groups.{rowOf}
+use Rattle.registers.specs.WriteRule.{leftOpen, writableNow, written}
+use Rattle.ports.specs.Ports.{ports, target}
+use Rattle.chip.specs.Names.{locked, received, portsOpen, colour, eightBit}
+use Rattle.chip.specs.Palette.{coloured, loaded, shown}
+use Rattle.chip.specs.Access.{portWritten, portRead}
+use Rattle.chip.specs.Reset.{resetByte, filled, reset}
+use Rattle.raster.specs.Raster.{number, raster, usesSource, usesPattern}
+use Rattle.blit.specs.Transfer.{byteDone, inTurn, lineDone, linesDone, inRange, inMemory, transferred}
+use Rattle.lists.specs.Tab.{tab}
+use Rattle.steps.specs.Step.{bytesOf}
+use Rattle.script.specs.Block.{wordSum}
+use Rattle.writer.specs.Write.{front, blocksTo}
+use Rattle.commands.specs.Command.{bytesOfAll}
+use Rattle.commands.specs.Expansion.{ways, expanded}
+use Rattle.setups.specs.Setups.{setups, allHold}
+
+pub setups-hold : allHold setups ≡ true
+unfolding setups CR XR MR rowOf leftOpen writableNow written ports target locked received portsOpen colour eightBit coloured loaded shown portWritten portRead resetByte filled reset number raster usesSource usesPattern byteDone inTurn lineDone linesDone inRange inMemory transferred tab bytesOf wordSum front blocksTo bytesOfAll ways expanded
+setups-hold = refl

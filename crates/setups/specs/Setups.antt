@@ -1,0 +1,141 @@
+-- Document 01, "Set-ups to try": the cases marked * in one table, a row to a line, over the definitions that the contracts cite.
+-- That every row holds is one statement, `setups-hold`, in proofs/Holding.
+use Prim.Native.Nat.{ℕ, zero, suc}
+use mathlib.Core.Bool.{Bool, true, false, _&&_}
+use mathlib.Core.List.{List, [], _∷_, _++_}
+use lib.Dec.{eqb}
+use lib.ListN.{length, take, replicate, getD}
+use Rattle.registers.specs.declared.Group.{Group}
+use Rattle.registers.specs.declared.Group.the-variants.{Cr, Xr, Mr, Msr, Palmask}
+use Rattle.chip.specs.State.{Named, named}
+use Rattle.chip.specs.Names.{register}
+use Rattle.chip.specs.Palette.{rgb, entry, shown}
+use Rattle.chip.specs.Access.{numberOf, portWritten, portRead}
+use Rattle.chip.specs.Reset.{reset}
+use Rattle.chip.specs.declared.Chip.{Chip}
+use Rattle.chip.specs.declared.Rgb.{Rgb}
+use Rattle.chip.specs.declared.access.Seen.{Seen}
+use Rattle.raster.specs.Raster.{raster}
+use Rattle.blit.specs.Transfer.{transferred}
+use Rattle.blit.specs.declared.Transfer.{Transfer}
+use Rattle.steps.specs.Step.{bytesOf as stepBytes}
+use Rattle.steps.specs.declared.Step.{Step}
+use Rattle.steps.specs.declared.Step.the-variants.{Set, Field}
+use Rattle.script.specs.Block.{word}
+use Rattle.writer.specs.Write.{fileOf}
+use Rattle.commands.specs.Command.{bytesOfAll}
+use Rattle.commands.specs.Expansion.{expanded}
+
+-- ---- what a row can say
+
+-- one thing that is done to a chip or looked up in it
+pub data Event : Type 0 where
+  -- a byte written to a port, with number 0
+  gets : ℕ → ℕ → Event
+  -- a port read, with number 0
+  reads : ℕ → ℕ → Event
+  -- a register by name
+  is : Group → ℕ → ℕ → Event
+  -- a palette entry, and the colour of a pixel
+  colour : ℕ → ℕ → ℕ → ℕ → Event
+  shows : ℕ → ℕ → ℕ → ℕ → Event
+
+pub data Row : Type 0 where
+  -- from a reset with these pin bytes
+  chip : ℕ → ℕ → List Event → Row
+  -- P, S, D, a code and the byte that it gives
+  raster-byte : ℕ → ℕ → ℕ → ℕ → ℕ → Row
+  -- the first bytes of a memory of 4,096, a transfer, and the first bytes afterwards
+  moves : List ℕ → Transfer → List ℕ → Row
+  -- a step and the bytes of its commands
+  commands : Step → List ℕ → Row
+  -- a file of one step, and its check
+  check : Step → ℕ → Row
+
+-- ---- when it holds
+
+abbrev pub same : List ℕ → List ℕ → Bool
+same [] [] = true
+same [] (y ∷ ys) = false
+same (x ∷ xs) [] = false
+same (x ∷ xs) (y ∷ ys) = eqb x y && same xs ys
+
+abbrev pub components : Rgb → List ℕ
+components c = c .red ∷ c .green ∷ c .blue ∷ []
+
+abbrev pub happens : Chip → List Event → Bool
+happens c [] = true
+happens c (gets p v ∷ es) = eqb (numberOf (portWritten c p v .answer)) 0 && happens (portWritten c p v .chip) es
+happens c (reads p v ∷ es) = eqb (numberOf (portRead c p .answer)) 0 && (eqb (portRead c p .value) v && happens (portRead c p .chip) es)
+happens c (is g i v ∷ es) = eqb (register g (named c) i) v && happens c es
+happens c (colour e r g b ∷ es) = same (components (entry (named c) e)) (r ∷ g ∷ b ∷ []) && happens c es
+happens c (shows p r g b ∷ es) = same (components (shown (named c) p)) (r ∷ g ∷ b ∷ []) && happens c es
+
+-- a memory that begins so
+abbrev pub memory : List ℕ → List ℕ
+memory front = front ++ replicate 4091 0
+
+abbrev pub holds : Row → Bool
+holds (chip first second es) = happens (reset first second) es
+holds (raster-byte p s d code byte) = eqb (raster code p s d) byte
+holds (moves front t after) = same (take (length after) (transferred (memory front) t)) after
+holds (commands s bytes) = same (bytesOfAll (expanded s)) bytes
+holds (check s w) = eqb (word (fileOf (stepBytes s)) 510) w
+
+-- ---- the table
+
+-- one line from a source to a destination, with no span and no pattern
+abbrev pub oneLine : ℕ → Bool → ℕ → ℕ → ℕ → Transfer
+oneLine code leftward width source destination = record {
+  destination = record { address = destination; span = 0 };
+  source = record { address = source; span = 0 };
+  width = width;
+  height = 1;
+  code = code;
+  leftward = leftward;
+  upward = false;
+  pattern = 0;
+  row = 0;
+}
+
+unfoldable pub setups : List Row
+setups =
+    -- 1. XR60, XR67, MR1F written FFh read 43h, 02h, EBh.
+    chip 0x02 0x00
+    (gets 0x3D6 0x60 ∷ gets 0x3D7 0xFF ∷ reads 0x3D7 0x43
+    ∷ gets 0x3D6 0x67 ∷ gets 0x3D7 0xFF ∷ reads 0x3D7 0x02
+    ∷ gets 0x3D2 0x1F ∷ gets 0x3D3 0xFF ∷ reads 0x3D3 0xEB ∷ [])
+    -- 2. First pin byte 02h: XR70 reads 03h.
+    ∷ chip 0x02 0x00 (gets 0x3D6 0x70 ∷ reads 0x3D7 0x03 ∷ [])
+    -- 4. CR07 = 00h, CR11 = 80h, then FFh to CR07: it reads 10h.
+    ∷ chip 0x02 0x00
+    (gets 0x3B4 0x07 ∷ gets 0x3B5 0x00 ∷ is Cr 0x07 0x00
+    ∷ gets 0x3B4 0x11 ∷ gets 0x3B5 0x80 ∷ is Cr 0x11 0x80
+    ∷ gets 0x3B4 0x07 ∷ gets 0x3B5 0xFF ∷ reads 0x3B5 0x10 ∷ [])
+    -- 6. 3D6h gets 61h, 3D7h gets 08h, 3D7h gets 43h: XR61 is 43h, XR60 is 00h. It starts with XR60 = XR61 = 00h.
+    ∷ chip 0x02 0x00
+    (is Xr 0x60 0x00 ∷ is Xr 0x61 0x00
+    ∷ gets 0x3D6 0x61 ∷ gets 0x3D7 0x08 ∷ gets 0x3D7 0x43
+    ∷ is Xr 0x61 0x43 ∷ is Xr 0x60 0x00 ∷ [])
+    -- 7. Six-bit mode, PALMASK FFh, 3C8h gets 255, data 63, 0, 21, 255, 2, 3: entry 255 is (63, 0, 21), shown 252, 0, 84; entry 0
+    -- is (63, 2, 3).
+    ∷ chip 0x02 0x00
+    (is Xr 0x80 0x00 ∷ gets 0x3C6 0xFF ∷ gets 0x3C8 255
+    ∷ gets 0x3C9 63 ∷ gets 0x3C9 0 ∷ gets 0x3C9 21 ∷ gets 0x3C9 255 ∷ gets 0x3C9 2 ∷ gets 0x3C9 3
+    ∷ colour 255 63 0 21 ∷ shows 255 252 0 84 ∷ colour 0 63 2 3 ∷ [])
+    -- 8. P = F0h, S = CCh, D = AAh: code B8h gives B8h.
+    ∷ raster-byte 0xF0 0xCC 0xAA 0xB8 0xB8
+    -- 9. Bytes 1, 2, 3, 4, 5 at 0; code CCh, width 4, height 1, source 0, destination 1, forward: 1, 1, 1, 1, 1.
+    ∷ moves (1 ∷ 2 ∷ 3 ∷ 4 ∷ 5 ∷ []) (oneLine 0xCC false 4 0 1) (1 ∷ 1 ∷ 1 ∷ 1 ∷ 1 ∷ [])
+    -- 10. The same backward, source 3, destination 4: 1, 1, 2, 3, 4.
+    ∷ moves (1 ∷ 2 ∷ 3 ∷ 4 ∷ 5 ∷ []) (oneLine 0xCC true 4 3 4) (1 ∷ 1 ∷ 2 ∷ 3 ∷ 4 ∷ [])
+    -- 12. FIELD XR80, mask 80h, value 80h: 01 D6 03 80, 02 D7 03 00, 03 7F 80 00, 04 D7 03 00.
+    ∷ commands (Field 3 0x80 0x80 0x80)
+    (0x01 ∷ 0xD6 ∷ 0x03 ∷ 0x80 ∷ 0x02 ∷ 0xD7 ∷ 0x03 ∷ 0x00 ∷ 0x03 ∷ 0x7F ∷ 0x80 ∷ 0x00 ∷ 0x04 ∷ 0xD7 ∷ 0x03 ∷ 0x00 ∷ [])
+    -- 13. One block, SET XR60 43h: the check is B89Fh.
+    ∷ check (Set 3 0x60 0x43) 0xB89F
+    ∷ []
+
+abbrev pub allHold : List Row → Bool
+allHold [] = true
+allHold (r ∷ rs) = holds r && allHold rs

@@ -1,0 +1,319 @@
+// Document 01's set-ups on the compiled code: a line a case, `3 ok`, or the bytes that came out instead. The
+// cases marked * are also rows of the table in specs/Setups, which is proved. A case is sixteen bytes:
+// what came out, and zeros after it.
+use blit::Answer as Transferred;
+use blit::Area;
+use blit::Refusal;
+use blit::Transfer;
+use blit::block_transfer;
+use chip::Chip;
+use chip::access::number;
+use commands::translate;
+use libc::STDOUT_FILENO;
+use raster::raster_byte;
+use registers::Group;
+
+// A capital hexadecimal digit.
+fn digit(x: u8) -> u8 {
+    let d = x % 16;
+    if d < 10 { d + 48 } else { d + 55 }
+}
+
+// Whether two cases have the same sixteen bytes.
+fn agree(got: [u8; 16], want: [u8; 16]) -> bool {
+    let mut i: usize = 0;
+    while i < 16 {
+        if got[i] != want[i] {
+            return false;
+        }
+        i += 1;
+    }
+    true
+}
+
+// The bytes that came out.
+fn print_bytes(got: [u8; 16]) {
+    let mut i: usize = 0;
+    while i < 16 {
+        io::write_all(STDOUT_FILENO, &[b' ', digit(got[i] / 16), digit(got[i])]);
+        i += 1;
+    }
+}
+
+// The line of a case.
+fn report(case: u64, got: [u8; 16], want: [u8; 16]) {
+    io::print_decimal(STDOUT_FILENO, case);
+    if agree(got, want) {
+        io::write_all(STDOUT_FILENO, b" ok");
+    } else {
+        io::write_all(STDOUT_FILENO, b" got");
+        print_bytes(got);
+    }
+    io::write_all(STDOUT_FILENO, b"\n");
+}
+
+// A chip after a write to a port, and what a read of a port gives.
+fn after(c: Chip, port: u16, v: u8) -> Chip {
+    let w = c.write(port, v);
+    w.chip
+}
+
+fn seen(c: Chip, port: u16) -> u8 {
+    let s = c.read(port);
+    s.value
+}
+
+// 1. XR60, XR67, MR1F written FFh.
+fn case_1() -> [u8; 16] {
+    let a = after(after(Chip::new(0x02, 0x00), 0x3D6, 0x60), 0x3D7, 0xFF);
+    let b = after(after(a, 0x3D6, 0x67), 0x3D7, 0xFF);
+    let c = after(after(b, 0x3D2, 0x1F), 0x3D3, 0xFF);
+    let mut out = [0u8; 16];
+    out[0] = seen(a, 0x3D7);
+    out[1] = seen(b, 0x3D7);
+    out[2] = seen(c, 0x3D3);
+    out
+}
+
+// 2. First pin byte 02h: XR70.
+fn case_2() -> [u8; 16] {
+    let mut out = [0u8; 16];
+    out[0] = seen(after(Chip::new(0x02, 0x00), 0x3D6, 0x70), 0x3D7);
+    out
+}
+
+// 3. First pin byte 00h: reading 3D7h, number and byte.
+fn case_3() -> [u8; 16] {
+    let s = Chip::new(0x00, 0x00).read(0x3D7);
+    let answer = s.answer;
+    let mut out = [0u8; 16];
+    out[0] = number(answer);
+    out[1] = s.value;
+    out
+}
+
+// 4. CR07 = 00h, CR11 = 80h, then FFh to CR07.
+fn case_4() -> [u8; 16] {
+    let a = after(after(Chip::new(0x02, 0x00), 0x3B4, 0x07), 0x3B5, 0x00);
+    let b = after(after(a, 0x3B4, 0x11), 0x3B5, 0x80);
+    let mut out = [0u8; 16];
+    out[0] = seen(after(after(b, 0x3B4, 0x07), 0x3B5, 0xFF), 0x3B5);
+    out
+}
+
+// 5. MSR bit 0 = 1 and the CR index 0Ah: 3B5h reads FFh, and a write to 3B4h leaves the index.
+fn case_5() -> [u8; 16] {
+    let c = after(after(Chip::new(0x02, 0x00), 0x3C2, 0x01), 0x3D4, 0x0A);
+    let mut out = [0u8; 16];
+    out[0] = seen(c, 0x3B5);
+    out[1] = seen(after(c, 0x3B4, 0x55), 0x3D4);
+    out
+}
+
+// 6. 3D6h gets 61h, 3D7h gets 08h, 3D7h gets 43h: XR61 and XR60.
+fn case_6() -> [u8; 16] {
+    let a = after(Chip::new(0x02, 0x00), 0x3D6, 0x61);
+    let c = after(after(a, 0x3D7, 0x08), 0x3D7, 0x43);
+    let mut out = [0u8; 16];
+    out[0] = c.get(Group::Xr, 0x61);
+    out[1] = c.get(Group::Xr, 0x60);
+    out
+}
+
+// 7. Six-bit mode, PALMASK FFh, 3C8h gets 255, data 63, 0, 21, 255, 2, 3: entry 255, shown, and entry 0.
+fn case_7() -> [u8; 16] {
+    let a = after(after(Chip::new(0x02, 0x00), 0x3C6, 0xFF), 0x3C8, 255);
+    let b = after(after(after(a, 0x3C9, 63), 0x3C9, 0), 0x3C9, 21);
+    let c = after(after(after(b, 0x3C9, 255), 0x3C9, 2), 0x3C9, 3);
+    let last = c.entry(255);
+    let light = c.shown(255);
+    let first = c.entry(0);
+    let mut out = [0u8; 16];
+    out[0] = last.red;
+    out[1] = last.green;
+    out[2] = last.blue;
+    out[3] = light.red;
+    out[4] = light.green;
+    out[5] = light.blue;
+    out[6] = first.red;
+    out[7] = first.green;
+    out[8] = first.blue;
+    out
+}
+
+// 8. P = F0h, S = CCh, D = AAh, code B8h.
+fn case_8() -> [u8; 16] {
+    let mut out = [0u8; 16];
+    out[0] = raster_byte(0xB8, 0xF0, 0xCC, 0xAA);
+    out
+}
+
+// Document 01's number of a transfer's answer.
+fn transfer_number(a: Transferred) -> u8 {
+    match a {
+        Transferred::Done => 0,
+        Transferred::Refused(why) => match why {
+            Refusal::Length => 3,
+            Refusal::Outside => 4,
+            Refusal::Range => 5,
+        },
+    }
+}
+
+// One line in a memory of 4,096 bytes that begins 1, 2, 3, 4, 5: the number, and the first five bytes.
+fn one_line(code: u8, leftward: bool, width: u32, source: u32, destination: u32) -> [u8; 16] {
+    let mut mem = [0u8; 4096];
+    mem[0] = 1;
+    mem[1] = 2;
+    mem[2] = 3;
+    mem[3] = 4;
+    mem[4] = 5;
+    let to = Area {
+        address: destination,
+        span: 0,
+    };
+    let from = Area {
+        address: source,
+        span: 0,
+    };
+    let t = Transfer {
+        destination: to,
+        source: from,
+        width,
+        height: 1,
+        code,
+        leftward,
+        upward: false,
+        pattern: 0,
+        row: 0,
+    };
+    let answer = block_transfer(&mut mem, t);
+    let mut out = [0u8; 16];
+    out[0] = transfer_number(answer);
+    out[1] = mem[0];
+    out[2] = mem[1];
+    out[3] = mem[2];
+    out[4] = mem[3];
+    out[5] = mem[4];
+    out
+}
+
+// 11. Memory 4,096, code F0h, pattern 0, destination 4,095, height 1, forward: widths 1 and 2.
+fn case_11() -> [u8; 16] {
+    let one = one_line(0xF0, false, 1, 0, 4095);
+    let two = one_line(0xF0, false, 2, 0, 4095);
+    let mut out = [0u8; 16];
+    out[0] = one[0];
+    out[1] = two[0];
+    out
+}
+
+// 12. FIELD XR80, mask 80h, value 80h, written as a file and translated: the bytes of its commands.
+fn case_12() -> [u8; 16] {
+    let mut file = [0u8; 512];
+    writer::write(&[2, 3, 0x80, 0x80, 0x80, 0], &mut file);
+    let mut out = [0u8; 32];
+    translate(&file, &mut out);
+    let mut got = [0u8; 16];
+    let mut i: usize = 0;
+    while i < 16 {
+        got[i] = out[i];
+        i += 1;
+    }
+    got
+}
+
+// 13. One block, SET XR60 43h: the check, high byte first.
+fn case_13() -> [u8; 16] {
+    let mut file = [0u8; 512];
+    writer::write(&[1, 3, 0x60, 0x43, 0, 0], &mut file);
+    let mut out = [0u8; 16];
+    out[0] = file[511];
+    out[1] = file[510];
+    out
+}
+
+fn main() {
+    report(
+        1,
+        case_1(),
+        [0x43, 0x02, 0xEB, 0, 0, 0, 0, 0, 0, 0, 0, 0, 0, 0, 0, 0],
+    );
+    report(
+        2,
+        case_2(),
+        [0x03, 0, 0, 0, 0, 0, 0, 0, 0, 0, 0, 0, 0, 0, 0, 0],
+    );
+    report(
+        3,
+        case_3(),
+        [2, 0xFF, 0, 0, 0, 0, 0, 0, 0, 0, 0, 0, 0, 0, 0, 0],
+    );
+    report(
+        4,
+        case_4(),
+        [0x10, 0, 0, 0, 0, 0, 0, 0, 0, 0, 0, 0, 0, 0, 0, 0],
+    );
+    report(
+        5,
+        case_5(),
+        [0xFF, 0x0A, 0, 0, 0, 0, 0, 0, 0, 0, 0, 0, 0, 0, 0, 0],
+    );
+    report(
+        6,
+        case_6(),
+        [0x43, 0x00, 0, 0, 0, 0, 0, 0, 0, 0, 0, 0, 0, 0, 0, 0],
+    );
+    report(
+        7,
+        case_7(),
+        [63, 0, 21, 252, 0, 84, 63, 2, 3, 0, 0, 0, 0, 0, 0, 0],
+    );
+    report(
+        8,
+        case_8(),
+        [0xB8, 0, 0, 0, 0, 0, 0, 0, 0, 0, 0, 0, 0, 0, 0, 0],
+    );
+    report(
+        9,
+        one_line(0xCC, false, 4, 0, 1),
+        [0, 1, 1, 1, 1, 1, 0, 0, 0, 0, 0, 0, 0, 0, 0, 0],
+    );
+    report(
+        10,
+        one_line(0xCC, true, 4, 3, 4),
+        [0, 1, 1, 2, 3, 4, 0, 0, 0, 0, 0, 0, 0, 0, 0, 0],
+    );
+    report(
+        11,
+        case_11(),
+        [0, 4, 0, 0, 0, 0, 0, 0, 0, 0, 0, 0, 0, 0, 0, 0],
+    );
+    report(
+        12,
+        case_12(),
+        [
+            0x01,
+            0xD6,
+            0x03,
+            0x80,
+            0x02,
+            0xD7,
+            0x03,
+            0x00,
+            0x03,
+            0x7F,
+            0x80,
+            0x00,
+            0x04,
+            0xD7,
+            0x03,
+            0x00,
+        ],
+    );
+    report(
+        13,
+        case_13(),
+        [0xB8, 0x9F, 0, 0, 0, 0, 0, 0, 0, 0, 0, 0, 0, 0, 0, 0],
+    );
+}
