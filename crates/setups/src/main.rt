@@ -208,19 +208,24 @@ fn case_11() -> [u8; 16] {
     out
 }
 
+// The first sixteen bytes of thirty-two.
+fn front(bytes: [u8; 32]) -> [u8; 16] {
+    let mut out = [0u8; 16];
+    let mut i: usize = 0;
+    while i < 16 {
+        out[i] = bytes[i];
+        i += 1;
+    }
+    out
+}
+
 // 12. FIELD XR80, mask 80h, value 80h, written as a file and translated: the bytes of its commands.
 fn case_12() -> [u8; 16] {
     let mut file = [0u8; 512];
     writer::write(&[2, 3, 0x80, 0x80, 0x80, 0], &mut file);
     let mut out = [0u8; 32];
     translate(&file, &mut out);
-    let mut got = [0u8; 16];
-    let mut i: usize = 0;
-    while i < 16 {
-        got[i] = out[i];
-        i += 1;
-    }
-    got
+    front(out)
 }
 
 // 13. One block, SET XR60 43h: the check, high byte first.
