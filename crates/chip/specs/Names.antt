@@ -2,8 +2,7 @@
 -- and "Scripts" for the word: a register that receives a byte is written by name, protection included.
 -- What layers above may use of this are the laws in proofs/NameLaws, not the tables.
 use Prim.Native.Nat.{ℕ}
-use mathlib.Core.Bool.{Bool, true, false, cond}
-use mathlib.Core.List.{List}
+use mathlib.Core.Bool.{Bool, false, cond}
 use lib.ListN.{getD, set}
 use Rattle.registers.specs.Bits.{isSet}
 use Rattle.registers.specs.Groups.{is}

@@ -4,7 +4,7 @@
 -- databook says so where it has their index registers (chapters 9, 10, 11 and 14), and for FR and MR, whose index registers have
 -- no page, it is document 01's rule that a reset bit that is not given is 0.
 use Prim.Native.Nat.{ℕ, zero, suc}
-use mathlib.Core.Bool.{Bool, false, cond}
+use mathlib.Core.Bool.{false, cond}
 use mathlib.Core.List.{List, [], _∷_, _++_}
 use lib.Dec.{eqb}
 use lib.ListN.{replicate}

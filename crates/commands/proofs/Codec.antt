@@ -1,11 +1,9 @@
 -- A command written and read again is the same command, and four bytes that are read as a command are its bytes. So the bytes
 -- of a list of commands say the list.
-use Prim.Native.Nat.{ℕ, _+_, _*_, _/_, _%_, _<_}
+use Prim.Native.Nat.{ℕ, _+_, _*_, _/_, _%_}
 use native.Mathlib.Omega.{arith}
-use mathlib.Core.Bool.{Bool, true, false, cond, _&&_}
 use mathlib.Core.Path.{_≡_, refl, sym, ap, _∙_}
 use mathlib.Core.List.{List, [], _∷_, _++_, append-assoc}
-use lib.Dec.{eqb}
 use lib.ListN.{length, getD, length-append}
 use Rattle.commands.specs.Command.{bytesOf, commandOf, bytesOfAll}
 use Rattle.commands.specs.declared.Command.{Command}

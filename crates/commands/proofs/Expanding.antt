@@ -12,7 +12,6 @@ use Rattle.script.specs.declared.Next.{Next}
 use Rattle.script.specs.declared.Next.the-variants.{Found, Refused, End}
 use Rattle.commands.specs.Expansion.{ways, setBy, fieldBy, expanded, commandsOf}
 use Rattle.commands.specs.Translation.{handed, stepsTo, commandsTo, begins}
-use Rattle.commands.specs.declared.Command.{Command}
 use Rattle.commands.specs.declared.Ways.{Ways}
 use Rattle.commands.specs.declared.Ways.the-variants.{Pair, Pairs, Direct, Nowhere}
 

@@ -1,10 +1,10 @@
 -- The translation's loop: a turn writes one step's commands behind those of the steps before it; and its answers.
-use Prim.Native.Nat.{ℕ, zero, suc, _+_, _*_, _/_, _≤_, _<_}
+use Prim.Native.Nat.{ℕ, _+_, _*_, _/_, _≤_, _<_}
 use native.Mathlib.Omega.{arith}
 use native.Mathlib.Numerals.{add-one}
 use mathlib.Core.Bool.{Bool, true, false, cond, not}
 use mathlib.Core.Path.{_≡_, refl, sym, ap, _∙_}
-use mathlib.Core.List.{List, [], _∷_, _++_}
+use mathlib.Core.List.{List}
 use lib.Dec.{ltb}
 use lib.ListN.{length}
 use borrow.Author.Tests.{lt-ltb, le-ltb, ltb-false}
@@ -16,7 +16,6 @@ use Rattle.script.specs.File.{wholeBlocks, blocks, firstBadBlock, stepCount, fi
 use Rattle.script.specs.Reader.{nextOf}
 use Rattle.script.specs.declared.Checked.{Checked}
 use Rattle.script.specs.declared.Checked.the-variants.{Accepted, Refused as NotAccepted}
-use Rattle.script.specs.declared.Next.{Next}
 use Rattle.script.specs.declared.Next.the-variants.{Found}
 use Rattle.script.specs.declared.Refusal.the-variants.{Length, Block, Step as NoStep, Room}
 use Rattle.script.specs.declared.Layout.the-variants.{Blocks}

@@ -13,7 +13,6 @@ use Rattle.script.specs.Reader.{nextOf}
 use Rattle.lists.specs.Numbers.{Returned, returned}
 use Rattle.script.specs.Numbers.{ofRefusal}
 use Rattle.script.specs.declared.Layout.the-variants.{Blocks}
-use Rattle.script.specs.declared.Refusal.{Refusal}
 use Rattle.script.specs.declared.Refusal.the-variants.{Room}
 use Rattle.script.specs.declared.Checked.{Checked}
 use Rattle.script.specs.declared.Checked.the-variants.{Accepted, Refused as NotAccepted}

@@ -1,9 +1,9 @@
 -- With closed ports a script's run stops at its first command, number 2, and the state is as it was: every legal step begins with
 -- a port access.
-use Prim.Native.Nat.{ℕ, zero, suc, _+_, _≤_, _<_}
+use Prim.Native.Nat.{ℕ, _+_, _<_}
 use native.Mathlib.Omega.{arith}
-use mathlib.Core.Bool.{Bool, true, false}
-use mathlib.Core.Path.{_≡_, refl, _∙_, ap, sym}
+use mathlib.Core.Bool.{true, false}
+use mathlib.Core.Path.{_≡_}
 use mathlib.Core.List.{List, [], _∷_, _++_}
 use lib.ListN.{length}
 use Rattle.lists.proofs.Tests.{and-both}
@@ -14,25 +14,18 @@ use Rattle.chip.specs.declared.Chip.{Chip}
 use Rattle.steps.specs.Step.{names, within, legal}
 use Rattle.steps.specs.declared.Step.{Step}
 use Rattle.steps.specs.declared.Step.the-variants.{Set, Field, Colour}
-use Rattle.script.specs.File.{checked}
-use Rattle.script.specs.Reader.{nextOf}
-use Rattle.script.proofs.Counting.{accepted-few}
-use Rattle.script.proofs.Reading.{accepted-handed}
-use Rattle.script.specs.declared.Checked.the-variants.{Accepted}
-use Rattle.commands.specs.Command.{bytesOfAll}
 use Rattle.commands.specs.Expansion.{ways, setBy, fieldBy, expanded, commandsOf}
-use Rattle.commands.specs.Translation.{handed, stepsTo, commandsTo, begins}
 use Rattle.commands.specs.declared.Command.{Command}
-use Rattle.commands.specs.declared.Command.the-variants.{Out, In, Merge, OutAcc}
+use Rattle.commands.specs.declared.Command.the-variants.{Out, In}
 use Rattle.commands.specs.declared.Ways.{Ways}
 use Rattle.commands.specs.declared.Ways.the-variants.{Pair, Pairs, Direct, Nowhere}
-use Rattle.run.specs.Run.{one, done, ran, runFrom, ranTo}
-use Rattle.run.proofs.RunLaws.{knowns, run-commands}
+use Rattle.run.specs.Run.{one, done, runFrom, ranTo}
+use Rattle.run.proofs.RunLaws.{knowns}
 use Rattle.run.specs.declared.Reason.the-variants.{Closed}
 use Rattle.run.specs.declared.Ending.the-variants.{Stopped}
 use Rattle.play.specs.ByName.{groupAt}
 use Rattle.play.proofs.Reaching.{Leads, leads}
-use Rattle.play.proofs.Demand3.{AllLegal, steps-legal}
+use Rattle.play.proofs.Demand3.{AllLegal}
 
 module _ (c : Chip) (shut : portsOpen (named c) ≡ false) where
   -- a list of commands that stops at its first

@@ -1,7 +1,7 @@
 -- Demand 3. A script's steps are legal, so their commands do what they say one step after the other (`script-sent`); a run whose
 -- limit ends with a step's commands stands where those commands leave it. The only fact about the state is that its ports
 -- are open, which every state reached from a reset with CFG1 = 1 has.
-use Prim.Native.Nat.{ℕ, zero, suc, _+_, _≤_, _<_}
+use Prim.Native.Nat.{ℕ, zero, suc, _+_, _≤_}
 use native.Mathlib.Omega.{arith}
 use mathlib.Core.Bool.{Bool, true, false}
 use mathlib.Core.Path.{_≡_, refl, _∙_, ap, sym}
@@ -9,10 +9,8 @@ use mathlib.Core.List.{List, [], _∷_, _++_, append-assoc, append-nil}
 use lib.Dec.{eqb}
 use lib.ListN.{length}
 use borrow.Author.Tests.{eqb-true, eqb-false}
-use Rattle.registers.specs.Bits.{isSet}
 use Rattle.chip.specs.State.{Named, named, join}
 use Rattle.chip.specs.Names.{portsOpen}
-use Rattle.chip.specs.Reach.{Reach}
 use Rattle.chip.proofs.ReachLaws.{ports-stay}
 use Rattle.chip.specs.declared.Chip.{Chip}
 use Rattle.chip.specs.declared.Indexes.{Indexes}
@@ -22,20 +20,15 @@ use Rattle.steps.specs.declared.Step.{Step}
 use Rattle.steps.specs.declared.Step.the-variants.{Set, Field, Colour}
 use Rattle.script.specs.File.{checked}
 use Rattle.script.specs.Reader.{nextOf}
-use Rattle.script.proofs.Reading.{Handed, accepted-handed}
+use Rattle.script.proofs.Reading.{accepted-handed}
 use Rattle.script.specs.declared.Checked.the-variants.{Accepted}
-use Rattle.script.specs.declared.Next.{Next}
-use Rattle.script.specs.declared.Next.the-variants.{Found}
 use Rattle.commands.specs.Command.{bytesOfAll}
 use Rattle.commands.specs.Expansion.{commandsOf}
 use Rattle.commands.specs.Translation.{handed, stepsTo, commandsTo, begins}
 use Rattle.commands.proofs.Expanding.{commands-append}
 use Rattle.commands.specs.declared.Command.{Command}
-use Rattle.commands.specs.declared.CommandRead.{CommandRead}
-use Rattle.run.specs.Run.{did, carry, ran, runFrom, ranTo, ofEnding}
+use Rattle.run.specs.Run.{ran, runFrom, ranTo}
 use Rattle.run.proofs.RunLaws.{knowns, run-append, run-commands, at-limit, Stands}
-use Rattle.run.specs.declared.Ran.{Ran}
-use Rattle.run.specs.declared.Verdict.the-variants.{Done}
 use Rattle.run.specs.declared.Ending.the-variants.{Ended}
 use Rattle.play.specs.ByName.{applied, appliedAll}
 use Rattle.play.specs.Demand3.{ranSteps, AfterSteps, Demand-3}

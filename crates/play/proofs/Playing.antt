@@ -1,40 +1,36 @@
 -- The entry: the bytes that are run are those of the translation, and what the run gives means by name what `ByName` says.
 use Prim.Native.Nat.{ℕ, zero, suc, _+_, _*_, _≤_, _<_}
 use native.Mathlib.Omega.{arith}
-use mathlib.Core.Bool.{Bool, true, false}
+use mathlib.Core.Bool.{true, false}
 use mathlib.Core.Path.{_≡_, refl, _∙_, ap, sym}
-use mathlib.Core.List.{List, [], _∷_, _++_, append-assoc}
+use mathlib.Core.List.{List}
 use lib.ListN.{length, take, drop, length-append}
 use lib.Seq.{take-at}
-use Rattle.lists.specs.Put.{put}
 use Rattle.lists.proofs.Put.{length-put}
 use Rattle.chip.specs.State.{named}
 use Rattle.chip.specs.Names.{portsOpen}
 use Rattle.chip.specs.declared.Chip.{Chip}
-use Rattle.steps.specs.declared.Step.{Step}
 use Rattle.script.specs.File.{stepCount, checked}
-use Rattle.script.specs.Reader.{nextOf}
 use Rattle.script.proofs.Counting.{accepted-few}
 use Rattle.script.proofs.Reading.{accepted-handed}
 use Rattle.script.specs.declared.Checked.the-variants.{Accepted}
 use Rattle.script.specs.declared.Refusal.{Refusal}
 use Rattle.commands.specs.Command.{bytesOfAll}
-use Rattle.commands.specs.Translation.{handed, stepsTo, commandsTo, begins, translated, leftBy}
+use Rattle.commands.specs.Translation.{stepsTo, commandsTo, begins, translated, leftBy}
 use Rattle.commands.proofs.Codec.{length-bytes}
 use Rattle.commands.proofs.Expanding.{begins-most}
-use Rattle.commands.proofs.Translating.{Translates, translated-says}
-use Rattle.commands.specs.declared.Translated.{Translated}
+use Rattle.commands.proofs.Translating.{translated-says}
 use Rattle.commands.specs.declared.Translated.the-variants.{Commands, Refused}
 use Rattle.run.specs.Run.{ran, ranTo}
-use Rattle.run.proofs.RunLaws.{knowns, run-commands}
+use Rattle.run.proofs.RunLaws.{run-commands}
 use Rattle.run.specs.declared.Ran.{Ran}
 use Rattle.run.specs.declared.Ending.the-variants.{Ended, Stopped}
 use Rattle.run.specs.declared.Reason.the-variants.{Closed}
 use Rattle.play.specs.ByName.{appliedAll}
-use Rattle.play.specs.Played.{performed, afterTranslation, played, ByName}
+use Rattle.play.specs.Played.{performed, played, ByName}
 use Rattle.play.specs.declared.Outcome.the-variants.{NotPlayed, Played}
 use Rattle.play.specs.declared.Performance.{Performance}
-use Rattle.play.proofs.Demand3.{AllLegal, steps-legal, whole-run}
+use Rattle.play.proofs.Demand3.{steps-legal, whole-run}
 use Rattle.play.proofs.Closed.{steps-stop}
 
 -- the commands fit into the buffer

@@ -1,10 +1,10 @@
 -- The facts of each group that the argument rests on: where its ports lead, that a selected index is the one that its data port works
 -- at, and that no write by name closes the ports. A new group adds its facts here; the argument in StepsSent goes by the way
 -- a group is reached and stays.
-use Prim.Native.Nat.{ℕ, zero, suc, _<_}
+use Prim.Native.Nat.{ℕ, zero, suc}
 use native.Mathlib.Omega.{arith}
-use mathlib.Core.Bool.{Bool, true, false, cond, _&&_, _||_}
-use mathlib.Core.Path.{_≡_, refl, _∙_, ap, sym}
+use mathlib.Core.Bool.{Bool, true, false}
+use mathlib.Core.Path.{_≡_, refl, ap, sym}
 use lib.Dec.{eqb}
 use borrow.Author.Tests.{eqb-true, le-ltb}
 use Rattle.registers.specs.Bits.{bit, isSet}
@@ -12,11 +12,11 @@ use Rattle.registers.specs.Extension.{XR}
 use Rattle.registers.specs.Groups.{rowOf, writableOf}
 use Rattle.registers.proofs.WriteLaws.{locked-fewer}
 use Rattle.registers.specs.declared.Group.{Group}
-use Rattle.registers.specs.declared.Group.the-variants.{Cr, Sr, Gr, Xr, Fr, Mr, Msr, Palmask}
+use Rattle.registers.specs.declared.Group.the-variants.{Cr, Xr}
 use Rattle.ports.specs.Ports.{ports, target}
 use Rattle.ports.specs.declared.Target.the-variants.{Index, Data, NotPicked}
 use Rattle.chip.specs.State.{Named, indexOf, withIndex}
-use Rattle.chip.specs.Names.{register, locked, received, portsOpen, colour}
+use Rattle.chip.specs.Names.{locked, received, portsOpen, colour}
 use Rattle.chip.specs.Palette.{coloured}
 use Rattle.chip.proofs.NameLaws.{received-keeps-bit, coloured-keeps-register}
 use Rattle.chip.specs.declared.Indexes.{Indexes}

@@ -3,13 +3,13 @@
 -- append. Under it, one law for each kind of command at the head of a list.
 use Prim.Native.Nat.{ℕ}
 use mathlib.Core.Bool.{Bool, true, false}
-use mathlib.Core.Path.{_≡_, refl, _∙_, ap, sym}
+use mathlib.Core.Path.{_≡_, refl, _∙_, ap}
 use mathlib.Core.List.{List, [], _∷_, _++_}
 use lib.Bits.{bitAnd, bitOr}
 use Rattle.registers.specs.declared.Group.{Group}
 use Rattle.ports.specs.Ports.{target}
 use Rattle.ports.specs.declared.Target.the-variants.{Index, Data, NotPicked}
-use Rattle.chip.specs.State.{Named, named, join, indexOf, withIndex}
+use Rattle.chip.specs.State.{Named, join, indexOf, withIndex}
 use Rattle.chip.specs.Names.{register, received, portsOpen, colour}
 use Rattle.chip.specs.Access.{portWritten, portRead}
 use Rattle.chip.specs.declared.Chip.{Chip}

@@ -1,34 +1,31 @@
 -- A step's commands do what the step says by name: by the way its group is reached, once over the groups; and COLOUR.
 use Prim.Native.Nat.{ℕ, _+_, _%_, _-_}
-use mathlib.Core.Bool.{Bool, true, false, _&&_}
-use mathlib.Core.Path.{_≡_, refl, _∙_, ap, sym}
-use mathlib.Core.List.{List, [], _∷_, _++_}
+use mathlib.Core.Bool.{Bool, true, false}
+use mathlib.Core.Path.{_≡_, refl, _∙_}
+use mathlib.Core.List.{List, [], _∷_}
 use lib.Bits.{bitAnd, bitOr}
 use Rattle.lists.proofs.Tests.{and-both}
 use Rattle.registers.specs.declared.Group.{Group}
 use Rattle.ports.specs.Ports.{ports, target}
-use Rattle.chip.specs.State.{Named, join, indexOf, withIndex}
+use Rattle.chip.specs.State.{Named, join}
 use Rattle.chip.specs.Names.{register, received, portsOpen, colour}
 use Rattle.chip.specs.Palette.{coloured, aimed, held, moved, loaded}
 use Rattle.chip.specs.Access.{portWritten}
-use Rattle.chip.specs.declared.Chip.{Chip}
 use Rattle.chip.specs.declared.Indexes.{Indexes}
 use Rattle.chip.specs.declared.Loading.{Loading}
 use Rattle.steps.specs.Step.{names, within, legal}
 use Rattle.steps.specs.declared.Step.{Step}
 use Rattle.steps.specs.declared.Step.the-variants.{Set, Field, Colour}
-use Rattle.commands.specs.Expansion.{ways, setBy, fieldBy, expanded, commandsOf}
-use Rattle.commands.specs.declared.Command.{Command}
-use Rattle.commands.specs.declared.Command.the-variants.{Out, In, Merge, OutAcc}
+use Rattle.commands.specs.Expansion.{ways, setBy, fieldBy, expanded}
+use Rattle.commands.specs.declared.Command.the-variants.{Out}
 use Rattle.commands.specs.declared.CommandRead.{CommandRead}
 use Rattle.commands.specs.declared.CommandRead.the-variants.{Known}
 use Rattle.commands.specs.declared.Ways.{Ways}
 use Rattle.commands.specs.declared.Ways.the-variants.{Pair, Pairs, Direct, Nowhere}
-use Rattle.run.specs.Run.{did, one, done, carry}
-use Rattle.run.specs.declared.Verdict.the-variants.{Done}
-use Rattle.play.specs.ByName.{groupAt, replacedBits, applied, appliedAll}
-use Rattle.play.proofs.Sends.{Sends, Any, At, sends-append, sends-none, sends-from, sends-any, selects, stores, changes, passes, skips, ended}
-use Rattle.play.proofs.Reaching.{Leads, leads, open-received, open-coloured}
+use Rattle.run.specs.Run.{one, done, carry}
+use Rattle.play.specs.ByName.{groupAt, applied}
+use Rattle.play.proofs.Sends.{Sends, Any, At, sends-append, sends-from, sends-any, selects, stores, changes, passes, skips, ended}
+use Rattle.play.proofs.Reaching.{Leads, leads, open-received}
 
 module _ (n : Named) (free : portsOpen n ≡ true) (g : Group) (i : ℕ) where
   set-sent : (v : ℕ) (w : Ways) (b : Bool) → colour n ≡ b → Leads b g i w → Sends Any n (setBy w i v) (received g n i v) (At g i)

@@ -8,7 +8,7 @@ use Rattle.chip.specs.State.{named}
 use Rattle.chip.specs.Names.{portsOpen}
 use Rattle.chip.specs.declared.Chip.{Chip}
 use Rattle.script.specs.File.{stepCount}
-use Rattle.lists.specs.Numbers.{Returned, returned}
+use Rattle.lists.specs.Numbers.{Returned}
 use Rattle.script.specs.Numbers.{ofRefusal}
 use Rattle.script.specs.declared.Refusal.{Refusal}
 use Rattle.commands.specs.Command.{bytesOfAll}
@@ -17,7 +17,6 @@ use Rattle.commands.specs.declared.Translated.{Translated}
 use Rattle.commands.specs.declared.Translated.the-variants.{Commands, Refused}
 use Rattle.run.specs.Run.{ran, ofEnding}
 use Rattle.run.specs.declared.Ran.{Ran}
-use Rattle.run.specs.declared.Ending.{Ending}
 use Rattle.run.specs.declared.Ending.the-variants.{Ended, Stopped}
 use Rattle.run.specs.declared.Reason.the-variants.{Closed}
 use Rattle.play.specs.ByName.{appliedAll}

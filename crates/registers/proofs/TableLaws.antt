@@ -15,9 +15,9 @@ use Rattle.registers.specs.Graphics.{GR}
 use Rattle.registers.specs.Extension.{XR}
 use Rattle.registers.specs.FlatPanel.{FR}
 use Rattle.registers.specs.Multimedia.{MR}
-use Rattle.registers.specs.Groups.{rowOf, writableIn, resetIn, writableOf, resetOf}
+use Rattle.registers.specs.Groups.{rowOf, writableIn, resetIn}
 use Rattle.registers.specs.declared.Row.{Row}
-use Rattle.registers.specs.declared.Row.the-variants.{Listed, Unlisted}
+use Rattle.registers.specs.declared.Row.the-variants.{Listed}
 use Rattle.registers.specs.declared.Group.{Group}
 use Rattle.registers.specs.declared.Group.the-variants.{Cr, Sr, Gr, Xr, Fr, Mr, Msr, Palmask}
 use Rattle.registers.proofs.Every.{both, true-of}

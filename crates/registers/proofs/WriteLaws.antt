@@ -1,13 +1,13 @@
 -- The write rule, bit for bit and once over the mask: a bit that the mask has comes from the byte written, every other bit
 -- stays. A lock only takes bits away from the mask. Nothing here speaks of a particular register.
-use Prim.Native.Nat.{ℕ, zero, suc, _+_, _-_, _*_, _/_, _%_, _^_, _<_, _≤_}
+use Prim.Native.Nat.{ℕ, zero, suc, _+_, _-_, _/_, _%_, _^_, _<_, _≤_}
 use native.Mathlib.Omega.{arith}
 use mathlib.Core.Bool.{Bool, true, false, cond}
 use mathlib.Core.Path.{_≡_, refl, ap, ap₂, sym, _∙_}
-use lib.Dec.{T, eqb}
+use lib.Dec.{eqb}
 use lib.Pow.{shr-shr, shr-lt}
 use native.Mathlib.Numerals.{add-one}
-use lib.Bits.{bitAnd, bitOr, and-shr, and-mod, or-shr, or-mod, and-zero-r, or-zero-l, or-zero-r, and-zero-l, and-mask, or-lt, and-le-l, and-le-r}
+use lib.Bits.{bitAnd, bitOr, and-shr, and-mod, or-shr, or-mod, and-zero-r, or-zero-l, or-zero-r, and-zero-l, and-mask, or-lt, and-le-l}
 use borrow.Author.Tests.{eqb-true, lt-ltb}
 use Rattle.registers.specs.Bits.{bit, isSet}
 use Rattle.registers.specs.CrtController.{CR}

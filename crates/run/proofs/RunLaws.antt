@@ -1,29 +1,27 @@
 -- Laws of the run: its count is the least of the limit, the commands there are and those before the first refused one; a run
 -- of two lists is the run of the second from where the first left off; a larger limit extends the shorter run; and the
 -- bytes of commands run as those commands.
-use Prim.Native.Nat.{ℕ, zero, suc, _+_, _-_, _*_, _%_, _≤_, _<_, min}
+use Prim.Native.Nat.{ℕ, zero, suc, _+_, _-_, _*_, _%_, _≤_, min}
 use lib.Seq.{length-take-le}
 use native.Mathlib.Omega.{arith}
 use mathlib.Core.Path.{_≡_, refl, _∙_, ap, sym}
-use mathlib.Core.List.{List, [], _∷_, _++_, map}
+use mathlib.Core.List.{List, [], _∷_, _++_}
 use lib.ListN.{length, take, drop, take-append-drop}
 use Rattle.chip.specs.declared.Chip.{Chip}
-use Rattle.commands.specs.Command.{bytesOf, commandOf, bytesOfAll}
+use Rattle.commands.specs.Command.{bytesOf, bytesOfAll}
 use Rattle.commands.proofs.Codec.{bytes-read, length-bytes}
 use Rattle.commands.specs.declared.Command.{Command}
 use Rattle.commands.specs.declared.Command.the-variants.{Out, In, Merge, OutAcc}
 use Rattle.commands.specs.declared.CommandRead.{CommandRead}
-use Rattle.commands.specs.declared.CommandRead.the-variants.{Known, Unknown}
+use Rattle.commands.specs.declared.CommandRead.the-variants.{Known}
 use Rattle.lists.specs.Numbers.{returned}
 use Rattle.run.specs.Run.{did, one, following, ranTo, runFrom, afterDone, carry, more, carried, reads, ran, ofEnding}
 use Rattle.run.specs.declared.Did.{Did}
 use Rattle.run.specs.declared.Ran.{Ran}
 use Rattle.run.specs.declared.Reason.{Reason}
-use Rattle.run.specs.declared.Reason.the-variants.{Form}
 use Rattle.run.specs.declared.Verdict.{Verdict}
 use Rattle.run.specs.declared.Verdict.the-variants.{Done, Bad}
-use Rattle.run.specs.declared.Ending.{Ending}
-use Rattle.run.specs.declared.Ending.the-variants.{Ended, AtLimit, Stopped}
+use Rattle.run.specs.declared.Ending.the-variants.{Stopped}
 use Rattle.run.proofs.Turns.{whole}
 
 -- ---- the count

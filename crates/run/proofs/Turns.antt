@@ -1,17 +1,16 @@
 -- One turn of the run's loop, in each of its ways: what is still to come from here is the whole run.
-use Prim.Native.Nat.{ℕ, zero, suc, _+_, _-_, _%_, _<_, _≤_}
+use Prim.Native.Nat.{ℕ, suc, _+_, _-_, _%_, _<_, _≤_}
 use native.Mathlib.Omega.{arith}
 use native.Mathlib.Numerals.{towards-suc}
-use mathlib.Core.Path.{_≡_, refl, _∙_, ap, sym}
-use mathlib.Core.List.{List, [], _∷_}
-use lib.Dec.{eqb}
+use mathlib.Core.Path.{_≡_}
+use mathlib.Core.List.{List, _∷_}
 use lib.ListN.{length, getD, drop, drop-of-length-le}
 use lib.Seq.{drop-cons}
 use borrow.Author.Tests.{eq-eqb, ne-eqb}
 use Rattle.chip.specs.declared.Chip.{Chip}
 use Rattle.commands.specs.Command.{commandOf}
 use Rattle.commands.specs.declared.CommandRead.{CommandRead}
-use Rattle.run.specs.Run.{one, following, ranTo, runFrom, reads, ran}
+use Rattle.run.specs.Run.{one, ranTo, runFrom, reads, ran}
 use Rattle.run.specs.declared.Did.{Did}
 use Rattle.run.specs.declared.Reason.{Reason}
 use Rattle.run.specs.declared.Reason.the-variants.{Form}

@@ -1,20 +1,19 @@
 -- Document 01, "Set-ups to try": the cases marked * in one table, a row to a line, over the definitions that the contracts cite.
 -- That every row holds is one statement, `setups-hold`, in proofs/Holding.
-use Prim.Native.Nat.{ℕ, zero, suc}
+use Prim.Native.Nat.{ℕ}
 use mathlib.Core.Bool.{Bool, true, false, _&&_}
 use mathlib.Core.List.{List, [], _∷_, _++_}
 use lib.Dec.{eqb}
-use lib.ListN.{length, take, replicate, getD}
+use lib.ListN.{length, take, replicate}
 use Rattle.registers.specs.declared.Group.{Group}
-use Rattle.registers.specs.declared.Group.the-variants.{Cr, Xr, Mr, Msr, Palmask}
-use Rattle.chip.specs.State.{Named, named}
+use Rattle.registers.specs.declared.Group.the-variants.{Cr, Xr}
+use Rattle.chip.specs.State.{named}
 use Rattle.chip.specs.Names.{register}
-use Rattle.chip.specs.Palette.{rgb, entry, shown}
+use Rattle.chip.specs.Palette.{entry, shown}
 use Rattle.chip.specs.Access.{numberOf, portWritten, portRead}
 use Rattle.chip.specs.Reset.{reset}
 use Rattle.chip.specs.declared.Chip.{Chip}
 use Rattle.chip.specs.declared.Rgb.{Rgb}
-use Rattle.chip.specs.declared.access.Seen.{Seen}
 use Rattle.raster.specs.Raster.{raster}
 use Rattle.blit.specs.Transfer.{transferred}
 use Rattle.blit.specs.declared.Transfer.{Transfer}

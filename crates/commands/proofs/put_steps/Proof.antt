@@ -1,12 +1,12 @@
 -- The loop's invariant: the commands of the first j steps stand in the output. The reader hands out every step of an accepted
 -- file, so the way out before the last is never taken.
-use Prim.Native.Nat.{ℕ, _+_, _*_, _-_, _<_, _≤_}
-use mathlib.Core.Path.{_≡_, refl, sym, _∙_, ap}
+use Prim.Native.Nat.{_-_, _≤_}
+use mathlib.Core.Path.{_≡_, refl, sym, _∙_}
 use mathlib.Core.Logic.{⊎-elim}
 use lib.ListN.{length}
 use Rattle.script.specs.Reader.{nextOf}
 use Rattle.script.proofs.Reading.{accepted-handed}
-use Rattle.commands.specs.Translation.{commandsTo, begins, Sent}
+use Rattle.commands.specs.Translation.{commandsTo, Sent}
 use Rattle.commands.proofs.Expanding.{expanded-most, begins-most}
 use Rattle.commands.proofs.Sending.{sent-length}
 use Rattle.commands.proofs.Translating.{sent-start, sent-step}

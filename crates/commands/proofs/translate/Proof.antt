@@ -1,5 +1,5 @@
 -- The check's refusals, too little room, and the steps written.
-use mathlib.Core.Path.{_≡_, refl, sym, ap, _∙_}
+use mathlib.Core.Path.{refl, sym, _∙_}
 use Rattle.commands.specs.Translation.{translated}
 use Rattle.commands.proofs.Translating.{too-little-room, enough-room, translated-whole}
 use borrow.Author.Needs.{needs}

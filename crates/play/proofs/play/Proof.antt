@@ -1,6 +1,5 @@
 -- The translation's refusal, and the run of what it left in the buffer.
-use Prim.Native.Nat.{_*_, _≤_}
-use mathlib.Core.Path.{_≡_, refl, sym, ap, _∙_}
+use mathlib.Core.Path.{sym, ap, _∙_}
 use lib.ListN.{length}
 use lib.Seq.{length-take-le}
 use Rattle.commands.specs.Translation.{leftBy}

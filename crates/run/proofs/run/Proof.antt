@@ -1,6 +1,6 @@
 -- The loop's invariant: what is still to come from here is the whole run. Each way out is a turn of that law.
 use Prim.Native.Nat.{_+_, _-_, _%_, _≤_, _<_}
-use mathlib.Core.Path.{_≡_, refl, sym, _∙_}
+use mathlib.Core.Path.{_≡_, refl, _∙_}
 use lib.ListN.{length, drop}
 use Rattle.run.specs.Run.{runFrom, reads, ran}
 use Rattle.run.proofs.Turns.{finished, limited, turned, halted, whole, uneven}

@@ -4,7 +4,7 @@ use Prim.Native.Nat.{ℕ}
 use native.Mathlib.Omega.{arith}
 use mathlib.Core.List.{List, [], _∷_}
 use Rattle.registers.specs.Sequencer.{SR}
-use Rattle.registers.specs.declared.Row.the-variants.{Listed, Unlisted}
+use Rattle.registers.specs.declared.Row.the-variants.{Unlisted}
 use Rattle.registers.proofs.Stretches.{otherwise}
 use Rattle.registers.proofs.rows.sr.Statement.{statement}
 use Rattle.registers.proofs.rows.sr.Tie as tie

@@ -1,0 +1,4 @@
+pub mod Digits
+pub mod Line
+pub mod Text
+pub mod Adding
