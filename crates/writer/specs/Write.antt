@@ -1,7 +1,7 @@
 -- What the writer makes of a list of steps, six bytes each (document 01, Scripts; Numbers returned): 8 for
 -- a list that is not 1 to 1,008 whole steps, then 7 for the first step that is none of the allowed, then 9
 -- for an output under 512 bytes a block; else the file, with the bytes after it as they were. A block is
--- laid out as specs/Block of the crate script says. The round trips are proofs/Back and proofs/Again.
+-- laid out as specs/Block of the crate script says. The round trips are proofs/RoundTrip.
 use Prim.Native.Nat.{ℕ, zero, suc, _+_, _-_, _*_, _/_, _%_, min}
 use mathlib.Core.List.{List, [], _∷_, _++_}
 use mathlib.Core.Bool.{Bool, cond, not}

@@ -6,7 +6,9 @@ use Rattle.script.proofs.is_content.Tie as tie
 
 returns : tie.Need-returns
 unfolding contentLegal
-returns c = cc
+returns c =
+    let n = c .before .before .before in
+    rw (n .before .before .before .before .last-mark .ensures, n .is-count .ensures, c .is-unused-zero .ensures, c .before .wide .ensures .0)
 
 pub is-content-spec : {M : Type 1} → statement M
 is-content-spec =
