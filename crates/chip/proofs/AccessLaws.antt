@@ -2,12 +2,14 @@
 -- what a read and a write leave alone, and CR11's protection. The numbers are in NumberLaws, the index ports in IndexLaws.
 use Prim.Native.Nat.{ℕ, _^_, _<_}
 use native.Mathlib.Nat.{zero-div}
-use borrow.Author.Tests.{eqb-true}
+use borrow.Author.Tests.{eqb-true, ne-eqb}
 use lib.Dec.{eqb}
-use mathlib.Core.Bool.{Bool, true, false, cond}
+use native.Mathlib.Omega.{arith}
+use mathlib.Core.Bool.{Bool, true, false, cond, _||_}
 use mathlib.Core.Path.{_≡_, refl, ap, _∙_}
 use Rattle.registers.specs.Bits.{bit}
-use Rattle.registers.proofs.Every.{every-at}
+use Rattle.lists.specs.Scan.{every}
+use Rattle.lists.proofs.Scan.{every-at}
 use Rattle.registers.proofs.WriteLaws.{CR00-to-CR06-locked, CR07-bit-4-open}
 use Rattle.registers.specs.declared.Group.{Group}
 use Rattle.registers.specs.declared.Group.the-variants.{Cr}
@@ -120,11 +122,10 @@ pub zero-bit : (k : ℕ) → bit k 0x00 ≡ 0
 zero-bit k = rw (zero-div (2 ^ k))
 
 only-bit-4 : (k : ℕ) → k < 8 → (k ≡ 4 → ⊥) → bit k 0x10 ≡ 0
-only-bit-4 k hk other = go (eqb k 4) refl
-  where
-    go : (z : Bool) → eqb k 4 ≡ z → bit k 0x10 ≡ 0
-    go true e = absurd (other (eqb-true k 4 e))
-    go false e = eqb-true _ _ (rw e at (every-at 8 (λ j. cond (eqb j 4) true (eqb (bit j 0x10) 0)) tt k hk))
+unfolding every
+only-bit-4 k hk other =
+    let each : (eqb k 4 || eqb (bit k 0x10) 0) ≡ true = every-at (λ j. eqb j 4 || eqb (bit j 0x10) 0) 0 8 refl k (omega arith) (omega arith) in
+    eqb-true _ _ (rw (ne-eqb k 4 other) at each)
 
 -- with CR11 bit 7 set no port write changes CR00 to CR06, and none changes CR07 but in bit 4
 module _ (c : Chip) (p v : ℕ) (lock : locked Cr (named c) ≡ true) where

@@ -6,10 +6,10 @@ use native.Mathlib.Omega.{arith}
 use mathlib.Core.Bool.{Bool, true, false, cond, _&&_}
 use mathlib.Core.Path.{_≡_, refl, sym, ap, _∙_}
 use mathlib.Core.List.{List, [], _∷_}
-use lib.Dec.{eqb, ltb, T}
+use lib.Dec.{eqb, ltb}
 use borrow.Author.Tests.{ne-eqb, ltb-true}
 use Rattle.registers.specs.Groups.{numberOf, is}
-use Rattle.registers.proofs.Every.{both, true-of}
+use Rattle.lists.proofs.Tests.{and-both}
 use Rattle.registers.specs.declared.Group.{Group}
 use Rattle.registers.specs.declared.Group.the-variants.{Cr, Sr, Gr, Xr, Fr, Mr, Msr, Palmask}
 use Rattle.ports.specs.Ports.{Port, ports, targetIn, target}
@@ -63,14 +63,14 @@ abbrev rows-indexed : Bool → List Port → Bool
 rows-indexed write [] = true
 rows-indexed write (r ∷ rs) = indexed (r .leads write) && rows-indexed write rs
 
-indexed-in : (write : Bool) (rs : List Port) (p : ℕ) → T (rows-indexed write rs) → indexed (targetIn rs write p) ≡ true
+indexed-in : (write : Bool) (rs : List Port) (p : ℕ) → rows-indexed write rs ≡ true → indexed (targetIn rs write p) ≡ true
 indexed-in write [] p t = refl
 indexed-in write (r ∷ rs) p t =
-    let (here, others) = both (indexed (r .leads write)) (rows-indexed write rs) t in
+    let (here, others) = and-both (indexed (r .leads write)) (rows-indexed write rs) t in
     go (eqb p (r .number)) here (indexed-in write rs p others)
   where
-    go : (z : Bool) → T (indexed (r .leads write)) → indexed (targetIn rs write p) ≡ true → indexed (cond z (r .leads write) (targetIn rs write p)) ≡ true
-    go true here others = true-of _ here
+    go : (z : Bool) → indexed (r .leads write) ≡ true → indexed (targetIn rs write p) ≡ true → indexed (cond z (r .leads write) (targetIn rs write p)) ≡ true
+    go true here others = here
     go false here others = others
 
 pub index-port : (picks write : Bool) (p : ℕ) (g : Group) → target picks write p ≡ Index g → numberOf g < 6
@@ -78,11 +78,11 @@ unfolding target ports
 index-port picks write p g leads =
     ltb-true (numberOf g) 6 (sym (ap indexed leads) ∙ indexed-in write (ports picks) p (tests picks write))
   where
-    tests : (picks write : Bool) → T (rows-indexed write (ports picks))
-    tests true true = tt
-    tests true false = tt
-    tests false true = tt
-    tests false false = tt
+    tests : (picks write : Bool) → rows-indexed write (ports picks) ≡ true
+    tests true true = refl
+    tests true false = refl
+    tests false true = refl
+    tests false false = refl
 
 -- through the ports: what a write to an index port leaves, and what index ports read then
 module _ (c : Chip) (p v : ℕ) (g : Group) (free : portsOpen (named c) ≡ true) (writes : target (colour (named c)) true p ≡ Index g) where

@@ -1,4 +1,3 @@
-pub mod Every
 pub mod Stretches
 pub mod WriteLaws
 pub mod TableLaws

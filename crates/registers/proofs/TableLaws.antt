@@ -5,7 +5,7 @@ use native.Mathlib.Omega.{arith}
 use mathlib.Core.Bool.{Bool, true, false, cond, _&&_}
 use mathlib.Core.Path.{_≡_, refl}
 use mathlib.Core.List.{List, [], _∷_}
-use lib.Dec.{T, eqb, ltb}
+use lib.Dec.{eqb, ltb}
 use lib.ListN.{length}
 use borrow.Author.Tests.{ltb-true}
 use Rattle.registers.specs.Rows.{Register, rowIn}
@@ -20,7 +20,7 @@ use Rattle.registers.specs.declared.Row.{Row}
 use Rattle.registers.specs.declared.Row.the-variants.{Listed}
 use Rattle.registers.specs.declared.Group.{Group}
 use Rattle.registers.specs.declared.Group.the-variants.{Cr, Sr, Gr, Xr, Fr, Mr, Msr, Palmask}
-use Rattle.registers.proofs.Every.{both, true-of}
+use Rattle.lists.proofs.Tests.{and-both}
 
 -- from a table's second row on, each index is above the one before it
 abbrev rising : ℕ → List Register → Bool
@@ -42,43 +42,43 @@ bytes (r ∷ rs) = byte (r .index) && (byte (r .writable) && (byte (r .reset) &&
 pub record Table (rs : List Register) (count : ℕ) : Type 0 where
   pub registers : length rs ≡ count
   pub order : ordered rs ≡ true
-  pub numbers : T (bytes rs)
+  pub numbers : bytes rs ≡ true
 
 pub CR-table : Table CR 44
 unfolding CR
-CR-table = record { registers = refl; order = refl; numbers = tt }
+CR-table = record { registers = refl; order = refl; numbers = refl }
 
 pub SR-table : Table SR 6
 unfolding SR
-SR-table = record { registers = refl; order = refl; numbers = tt }
+SR-table = record { registers = refl; order = refl; numbers = refl }
 
 pub GR-table : Table GR 9
 unfolding GR
-GR-table = record { registers = refl; order = refl; numbers = tt }
+GR-table = record { registers = refl; order = refl; numbers = refl }
 
 pub XR-table : Table XR 88
 unfolding XR
-XR-table = record { registers = refl; order = refl; numbers = tt }
+XR-table = record { registers = refl; order = refl; numbers = refl }
 
 pub FR-table : Table FR 52
 unfolding FR
-FR-table = record { registers = refl; order = refl; numbers = tt }
+FR-table = record { registers = refl; order = refl; numbers = refl }
 
 pub MR-table : Table MR 55
 unfolding MR
-MR-table = record { registers = refl; order = refl; numbers = tt }
+MR-table = record { registers = refl; order = refl; numbers = refl }
 
 -- the writable bits and the reset byte of a row are bytes
 abbrev pub Bytes : Row → Type 0
 Bytes r = (writableIn r < 0x100) × (resetIn r < 0x100)
 
-row-bytes : (rs : List Register) (i : ℕ) → T (bytes rs) → Bytes (rowIn rs i)
+row-bytes : (rs : List Register) (i : ℕ) → bytes rs ≡ true → Bytes (rowIn rs i)
 row-bytes [] i t = (omega arith, omega arith)
 row-bytes (r ∷ rs) i t =
-    let (_, u) = both (byte (r .index)) (byte (r .writable) && (byte (r .reset) && bytes rs)) t in
-    let (w, v) = both (byte (r .writable)) (byte (r .reset) && bytes rs) u in
-    let (b, others) = both (byte (r .reset)) (bytes rs) v in
-    go (eqb i (r .index)) (ltb-true _ _ (true-of _ w)) (ltb-true _ _ (true-of _ b)) (row-bytes rs i others)
+    let (_, u) = and-both (byte (r .index)) (byte (r .writable) && (byte (r .reset) && bytes rs)) t in
+    let (w, v) = and-both (byte (r .writable)) (byte (r .reset) && bytes rs) u in
+    let (b, others) = and-both (byte (r .reset)) (bytes rs) v in
+    go (eqb i (r .index)) (ltb-true _ _ w) (ltb-true _ _ b) (row-bytes rs i others)
   where
     go : (z : Bool) → r .writable < 0x100 → r .reset < 0x100 → Bytes (rowIn rs i) → Bytes (cond z (Listed (r .writable) (r .reset)) (rowIn rs i))
     go true w b h = (w, b)

@@ -2,6 +2,7 @@
 -- that is computed over it (`otherwise`).
 use Prim.Native.Nat.{ℕ}
 use native.Mathlib.Omega.{arith}
+use mathlib.Core.Path.{refl}
 use mathlib.Core.List.{List, [], _∷_}
 use Rattle.registers.specs.CrtController.{CR}
 use Rattle.registers.specs.declared.Row.the-variants.{Listed, Unlisted}
@@ -35,14 +36,14 @@ cr-spec =
     (λ c. rw (c .match .keys15))
     (λ c. rw (c .match .keys16))
     (λ c. rw (c .match .keys17))
-    (λ c. otherwise CR singles (Listed 0xFF 0x00) 0x00 3 _ tt (c .before .before .match .rest) (omega arith) (omega arith))
-    (λ c. otherwise CR singles (Listed 0xFF 0x00) 0x03 5 _ tt (c .before .before .before .match .rest) (omega arith) (omega arith))
-    (λ c. otherwise CR singles (Listed 0xFF 0x00) 0x08 9 _ tt (c .before .before .before .before .match .rest) (omega arith) (omega arith))
-    (λ c. otherwise CR singles (Listed 0xFF 0x00) 0x11 3 _ tt (c .before .before .before .before .before .match .rest) (omega arith) (omega arith))
-    (λ c. otherwise CR singles (Listed 0xFF 0x00) 0x14 3 _ tt (c .before .before .before .before .before .before .match .rest) (omega arith) (omega arith))
-    (λ c. otherwise CR singles (Listed 0x0F 0x00) 0x30 4 _ tt (c .before .before .match .rest) (omega arith) (omega arith))
-    (λ c. otherwise CR singles (Listed 0xFF 0x00) 0x70 4 _ tt (c .before .before .before .before .match .rest) (omega arith) (omega arith))
-    (λ c. otherwise CR singles (Listed 0xFF 0x00) 0x74 4 _ tt (c .before .before .before .before .before .match .rest) (omega arith) (omega arith))
-    (λ c. otherwise CR singles Unlisted 0x17 25 _ tt (c .before .before .before .before .before .before .match .rest) (omega arith) (omega arith))
-    (λ c. otherwise CR singles Unlisted 0x34 60 _ tt (c .before .before .before .match .rest) (omega arith) (omega arith))
-    (λ c. otherwise CR singles Unlisted 0x78 136 _ tt (c .before .before .before .before .before .match .rest) (omega arith) (omega arith)))
+    (λ c. otherwise CR singles (Listed 0xFF 0x00) 0x00 3 _ refl (c .before .before .match .rest) (omega arith) (omega arith))
+    (λ c. otherwise CR singles (Listed 0xFF 0x00) 0x03 5 _ refl (c .before .before .before .match .rest) (omega arith) (omega arith))
+    (λ c. otherwise CR singles (Listed 0xFF 0x00) 0x08 9 _ refl (c .before .before .before .before .match .rest) (omega arith) (omega arith))
+    (λ c. otherwise CR singles (Listed 0xFF 0x00) 0x11 3 _ refl (c .before .before .before .before .before .match .rest) (omega arith) (omega arith))
+    (λ c. otherwise CR singles (Listed 0xFF 0x00) 0x14 3 _ refl (c .before .before .before .before .before .before .match .rest) (omega arith) (omega arith))
+    (λ c. otherwise CR singles (Listed 0x0F 0x00) 0x30 4 _ refl (c .before .before .match .rest) (omega arith) (omega arith))
+    (λ c. otherwise CR singles (Listed 0xFF 0x00) 0x70 4 _ refl (c .before .before .before .before .match .rest) (omega arith) (omega arith))
+    (λ c. otherwise CR singles (Listed 0xFF 0x00) 0x74 4 _ refl (c .before .before .before .before .before .match .rest) (omega arith) (omega arith))
+    (λ c. otherwise CR singles Unlisted 0x17 25 _ refl (c .before .before .before .before .before .before .match .rest) (omega arith) (omega arith))
+    (λ c. otherwise CR singles Unlisted 0x34 60 _ refl (c .before .before .before .match .rest) (omega arith) (omega arith))
+    (λ c. otherwise CR singles Unlisted 0x78 136 _ refl (c .before .before .before .before .before .match .rest) (omega arith) (omega arith)))

@@ -2,6 +2,7 @@
 -- that is computed over it (`otherwise`).
 use Prim.Native.Nat.{ℕ}
 use native.Mathlib.Omega.{arith}
+use mathlib.Core.Path.{refl}
 use mathlib.Core.List.{List, [], _∷_}
 use Rattle.registers.specs.FlatPanel.{FR}
 use Rattle.registers.specs.declared.Row.the-variants.{Listed, Unlisted}
@@ -38,14 +39,14 @@ fr-spec =
     (λ c. rw (c .match .keys18))
     (λ c. rw (c .match .keys19))
     (λ c. rw (c .match .keys20))
-    (λ c. otherwise FR singles (Listed 0xFF 0x00) 0x0F 5 _ tt (c .before .before .before .match .rest) (omega arith) (omega arith))
-    (λ c. otherwise FR singles (Listed 0xFF 0x00) 0x1E 10 _ tt (c .before .before .before .before .before .match .rest) (omega arith) (omega arith))
-    (λ c. otherwise FR singles (Listed 0xFF 0x00) 0x30 7 _ tt (c .before .before .before .before .before .before .match .rest) (omega arith) (omega arith))
-    (λ c. otherwise FR singles (Listed 0xFF 0x00) 0x48 7 _ tt (c .before .before .before .match .rest) (omega arith) (omega arith))
-    (λ c. otherwise FR singles (Listed 0xFF 0x00) 0x70 5 _ tt (c .before .before .before .before .before .match .rest) (omega arith) (omega arith))
-    (λ c. otherwise FR singles Unlisted 0x00 15 _ tt (c .before .before .match .rest) (omega arith) (omega arith))
-    (λ c. otherwise FR singles Unlisted 0x14 10 _ tt (c .before .before .before .before .match .rest) (omega arith) (omega arith))
-    (λ c. otherwise FR singles Unlisted 0x28 8 _ tt (c .before .before .before .before .before .before .match .rest) (omega arith) (omega arith))
-    (λ c. otherwise FR singles Unlisted 0x37 17 _ tt (c .before .before .match .rest) (omega arith) (omega arith))
-    (λ c. otherwise FR singles Unlisted 0x4F 33 _ tt (c .before .before .before .before .match .rest) (omega arith) (omega arith))
-    (λ c. otherwise FR singles Unlisted 0x75 139 _ tt (c .before .before .before .before .before .match .rest) (omega arith) (omega arith)))
+    (λ c. otherwise FR singles (Listed 0xFF 0x00) 0x0F 5 _ refl (c .before .before .before .match .rest) (omega arith) (omega arith))
+    (λ c. otherwise FR singles (Listed 0xFF 0x00) 0x1E 10 _ refl (c .before .before .before .before .before .match .rest) (omega arith) (omega arith))
+    (λ c. otherwise FR singles (Listed 0xFF 0x00) 0x30 7 _ refl (c .before .before .before .before .before .before .match .rest) (omega arith) (omega arith))
+    (λ c. otherwise FR singles (Listed 0xFF 0x00) 0x48 7 _ refl (c .before .before .before .match .rest) (omega arith) (omega arith))
+    (λ c. otherwise FR singles (Listed 0xFF 0x00) 0x70 5 _ refl (c .before .before .before .before .before .match .rest) (omega arith) (omega arith))
+    (λ c. otherwise FR singles Unlisted 0x00 15 _ refl (c .before .before .match .rest) (omega arith) (omega arith))
+    (λ c. otherwise FR singles Unlisted 0x14 10 _ refl (c .before .before .before .before .match .rest) (omega arith) (omega arith))
+    (λ c. otherwise FR singles Unlisted 0x28 8 _ refl (c .before .before .before .before .before .before .match .rest) (omega arith) (omega arith))
+    (λ c. otherwise FR singles Unlisted 0x37 17 _ refl (c .before .before .match .rest) (omega arith) (omega arith))
+    (λ c. otherwise FR singles Unlisted 0x4F 33 _ refl (c .before .before .before .before .match .rest) (omega arith) (omega arith))
+    (λ c. otherwise FR singles Unlisted 0x75 139 _ refl (c .before .before .before .before .before .match .rest) (omega arith) (omega arith)))

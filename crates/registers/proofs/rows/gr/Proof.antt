@@ -2,6 +2,7 @@
 -- that is computed over it (`otherwise`).
 use Prim.Native.Nat.{ℕ}
 use native.Mathlib.Omega.{arith}
+use mathlib.Core.Path.{refl}
 use mathlib.Core.List.{List, [], _∷_}
 use Rattle.registers.specs.Graphics.{GR}
 use Rattle.registers.specs.declared.Row.the-variants.{Listed, Unlisted}
@@ -22,6 +23,6 @@ gr-spec =
     (λ c. rw (c .match .keys2))
     (λ c. rw (c .match .keys3))
     (λ c. rw (c .match .keys4))
-    (λ c. otherwise GR singles (Listed 0x0F 0x00) 0x00 3 _ tt (c .before .match .rest) (omega arith) (omega arith))
-    (λ c. otherwise GR singles (Listed 0x0F 0x00) 0x03 5 _ tt (c .before .before .match .rest) (omega arith) (omega arith))
-    (λ c. otherwise GR singles Unlisted 0x08 248 _ tt (c .before .before .match .rest) (omega arith) (omega arith)))
+    (λ c. otherwise GR singles (Listed 0x0F 0x00) 0x00 3 _ refl (c .before .match .rest) (omega arith) (omega arith))
+    (λ c. otherwise GR singles (Listed 0x0F 0x00) 0x03 5 _ refl (c .before .before .match .rest) (omega arith) (omega arith))
+    (λ c. otherwise GR singles Unlisted 0x08 248 _ refl (c .before .before .match .rest) (omega arith) (omega arith)))

@@ -2,6 +2,7 @@
 -- that is computed over it (`otherwise`).
 use Prim.Native.Nat.{ℕ}
 use native.Mathlib.Omega.{arith}
+use mathlib.Core.Path.{refl}
 use mathlib.Core.List.{List, [], _∷_}
 use Rattle.registers.specs.Multimedia.{MR}
 use Rattle.registers.specs.declared.Row.the-variants.{Listed, Unlisted}
@@ -56,13 +57,13 @@ mr-spec =
     (λ c. rw (c .match .keys36))
     (λ c. rw (c .match .keys37))
     (λ c. rw (c .match .keys38))
-    (λ c. otherwise MR singles (Listed 0x00 0x00) 0x00 2 _ tt (c .before .before .match .rest) (omega arith) (omega arith))
-    (λ c. otherwise MR singles (Listed 0xFF 0x00) 0x02 3 _ tt (c .before .before .before .match .rest) (omega arith) (omega arith))
-    (λ c. otherwise MR singles (Listed 0xFF 0x00) 0x0E 11 _ tt (c .before .before .before .before .before .match .rest) (omega arith) (omega arith))
-    (λ c. otherwise MR singles (Listed 0xFC 0x00) 0x2A 10 _ tt (c .before .before .match .rest) (omega arith) (omega arith))
-    (λ c. otherwise MR singles (Listed 0xFF 0x00) 0x3C 7 _ tt (c .before .before .before .before .match .rest) (omega arith) (omega arith))
-    (λ c. otherwise MR singles (Listed 0x00 0x00) 0x43 2 _ tt (c .before .before .before .before .before .match .rest) (omega arith) (omega arith))
-    (λ c. otherwise MR singles Unlisted 0x05 9 _ tt (c .before .before .before .before .match .rest) (omega arith) (omega arith))
-    (λ c. otherwise MR singles Unlisted 0x19 17 _ tt (c .before .before .before .before .before .match .rest) (omega arith) (omega arith))
-    (λ c. otherwise MR singles Unlisted 0x34 8 _ tt (c .before .before .before .match .rest) (omega arith) (omega arith))
-    (λ c. otherwise MR singles Unlisted 0x45 187 _ tt (c .before .before .before .before .before .match .rest) (omega arith) (omega arith)))
+    (λ c. otherwise MR singles (Listed 0x00 0x00) 0x00 2 _ refl (c .before .before .match .rest) (omega arith) (omega arith))
+    (λ c. otherwise MR singles (Listed 0xFF 0x00) 0x02 3 _ refl (c .before .before .before .match .rest) (omega arith) (omega arith))
+    (λ c. otherwise MR singles (Listed 0xFF 0x00) 0x0E 11 _ refl (c .before .before .before .before .before .match .rest) (omega arith) (omega arith))
+    (λ c. otherwise MR singles (Listed 0xFC 0x00) 0x2A 10 _ refl (c .before .before .match .rest) (omega arith) (omega arith))
+    (λ c. otherwise MR singles (Listed 0xFF 0x00) 0x3C 7 _ refl (c .before .before .before .before .match .rest) (omega arith) (omega arith))
+    (λ c. otherwise MR singles (Listed 0x00 0x00) 0x43 2 _ refl (c .before .before .before .before .before .match .rest) (omega arith) (omega arith))
+    (λ c. otherwise MR singles Unlisted 0x05 9 _ refl (c .before .before .before .before .match .rest) (omega arith) (omega arith))
+    (λ c. otherwise MR singles Unlisted 0x19 17 _ refl (c .before .before .before .before .before .match .rest) (omega arith) (omega arith))
+    (λ c. otherwise MR singles Unlisted 0x34 8 _ refl (c .before .before .before .match .rest) (omega arith) (omega arith))
+    (λ c. otherwise MR singles Unlisted 0x45 187 _ refl (c .before .before .before .before .before .match .rest) (omega arith) (omega arith)))

@@ -2,6 +2,7 @@
 -- that is computed over it (`otherwise`).
 use Prim.Native.Nat.{ℕ}
 use native.Mathlib.Omega.{arith}
+use mathlib.Core.Path.{refl}
 use mathlib.Core.List.{List, [], _∷_}
 use Rattle.registers.specs.Sequencer.{SR}
 use Rattle.registers.specs.declared.Row.the-variants.{Unlisted}
@@ -24,4 +25,4 @@ sr-spec =
     (λ c. rw (c .match .keys4))
     (λ c. rw (c .match .keys5))
     (λ c. rw (c .match .keys6))
-    (λ c. otherwise SR singles Unlisted 0x00 256 _ tt (c .match .rest) (omega arith) (omega arith)))
+    (λ c. otherwise SR singles Unlisted 0x00 256 _ refl (c .match .rest) (omega arith) (omega arith)))
