@@ -177,8 +177,8 @@ static struct transfer turned(struct transfer t) {
     return t;
 }
 
-static void row(const struct transfer t[2], bool apart) {
-    bool on[WAYS] = {true, true, apart, t[0].code == 0xCC};
+static void row(const struct transfer t[2], bool apart, bool move) {
+    bool on[WAYS] = {true, true, apart, move && t[0].code == 0xCC};
     double best[WAYS][2];
     for (int d = 0; d < 2; d++)
         for (int w = 0; w < WAYS; w++)
@@ -199,16 +199,19 @@ static void row(const struct transfer t[2], bool apart) {
 
 int main(void) {
     static const uint8_t codes[] = {0xCC, 0x66, 0xF0, 0x5A, 0xB8};
-    // The last two overlap: the source is a line, or a byte, after the destination, and backward before it.
+    // The last three overlap. Scrolled: the source is a line, or a byte, after the destination, and backward before it, so that a
+    // copy is a move. Smeared: it is 64 bytes before the destination, and backward after it, so that each line reads what it
+    // has written.
     static const struct {
         const char *name;
         uint32_t width, height, dst, dstspan, src, srcspan;
-        bool apart;
+        bool apart, move;
     } kinds[] = {
-        {"640 by 480", 640, 480, 1000003, 640, 100000, 800, true},
-        {"8 by 16", 8, 16, 1000003, 640, 100000, 800, true},
-        {"640 by 480, scrolled by a line", 640, 480, 1000003, 640, 1000003 + 640, 640, false},
-        {"640 by 480, scrolled by a byte", 640, 480, 1000003, 640, 1000003 + 1, 640, false},
+        {"640 by 480", 640, 480, 1000003, 640, 100000, 800, true, true},
+        {"8 by 16", 8, 16, 1000003, 640, 100000, 800, true, true},
+        {"640 by 480, scrolled by a line", 640, 480, 1000003, 640, 1000003 + 640, 640, false, true},
+        {"640 by 480, scrolled by a byte", 640, 480, 1000003, 640, 1000003 + 1, 640, false, true},
+        {"640 by 480, smeared by 64 bytes", 640, 480, 1000003 + 64, 640, 1000003, 640, false, false},
     };
     uint32_t seed = 1;
     for (size_t i = 0; i < MEMORY; i++) {
@@ -229,7 +232,7 @@ int main(void) {
                 both[1].src = t.dst;
             }
             both[1] = turned(both[1]);
-            row(both, kinds[k].apart);
+            row(both, kinds[k].apart, kinds[k].move);
         }
     }
     return 0;

@@ -1,6 +1,8 @@
+-- What the functions' proofs share. Areas: where a transfer's bytes lie, for `bounds`. Parts, Line and Ways: a line, for `lines`.
+-- Rows: the lines of a transfer. Every: tests and flags.
 pub mod Every
+pub mod Areas
 pub mod Parts
 pub mod Line
 pub mod Ways
-pub mod Areas
 pub mod Rows

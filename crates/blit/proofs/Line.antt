@@ -12,23 +12,18 @@ use lib.Dec.{lit<}
 use lib.ListN.{length, getD}
 use Rattle.raster.specs.Raster.{raster}
 use Rattle.blit.specs.Transfer.{inTurn}
-use Rattle.blit.specs.Working.{Part, SourceStill, PatternStill, lineByte}
+use Rattle.blit.specs.Working.{Part, becomes, SourceStill, PatternStill, lineByte}
 use Rattle.blit.proofs.Parts.{part-none, part-up, part-down, when}
 
--- what the line becomes: byte k from its lowest address on, of the memory m
-abbrev pub line : ℕ → Bool → Bool → ℕ → ℕ → ℕ → List ℕ → ℕ → ℕ
-line code source pattern d s p m k =
-    raster code (cond pattern (getD m (p + (d + k) % 8) 0) 0) (cond source (getD m (s + k) 0) 0) (getD m (d + k) 0)
-
 -- byte k's operands are read as they were, where the stretch from i to j does not hold them
-module _ (code : ℕ) (source pattern : Bool) (d s p w : ℕ) (m m′ : List ℕ) (i j k : ℕ) (P : Part d (line code source pattern d s p m) i j m m′) where
+module _ (code : ℕ) (source pattern : Bool) (d s p w : ℕ) (m m′ : List ℕ) (i j k : ℕ) (P : Part d (becomes code source pattern d s p m) i j m m′) where
   outside : (x : ℕ) → (x < d + i) ⊎ (d + j ≤ x) → getD m′ x 0 ≡ getD m x 0
   outside x h = ⊎-elim (P .below x) (P .above x) h
 
   line-read : (s + k < d + i) ⊎ (d + j ≤ s + k) → (d + k < d + i) ⊎ (d + j ≤ d + k)
       → (pattern ≡ true → (p + (d + k) % 8 < d + i) ⊎ (d + j ≤ p + (d + k) % 8))
       → raster code (cond pattern (getD m′ (p + (d + k) % 8) 0) 0) (cond source (getD m′ (s + k) 0) 0) (getD m′ (d + k) 0)
-      ≡ line code source pattern d s p m k
+      ≡ becomes code source pattern d s p m k
   line-read hs hd hp =
       rw (
         when pattern (getD m′ (p + (d + k) % 8) 0) (getD m (p + (d + k) % 8) 0) (λ e. outside (p + (d + k) % 8) (hp e)),
@@ -44,33 +39,33 @@ module _ (code : ℕ) (source pattern : Bool) (d s p w : ℕ) (m : List ℕ) (fi
       ⊎-elim (λ q. inl (omega arith)) (λ q. inr (omega arith)) (still e .apart)
 
   ascending : SourceStill false d s w → (c : ℕ) → c ≤ w
-      → Part d (line code source pattern d s p m) 0 c m (inTurn c (lineByte code source pattern false d s p w) m)
+      → Part d (becomes code source pattern d s p m) 0 c m (inTurn c (lineByte code source pattern false d s p w) m)
   unfolding inTurn lineByte
-  ascending h zero l = part-none d (line code source pattern d s p m) 0 m
+  ascending h zero l = part-none d (becomes code source pattern d s p m) 0 m
   ascending h (suc c) l =
       let m′ = inTurn c (lineByte code source pattern false d s p w) m in
       let P = ascending h c (omega arith) in
       let hs : (s + c < d + 0) ⊎ (d + c ≤ s + c) = ⊎-elim (λ q. inr (omega arith)) (λ q. inl (omega arith)) h in
       rw (← add-one c)
-      (part-up d (line code source pattern d s p m) m m′ (d + c) _ (omega arith) c P refl
+      (part-up d (becomes code source pattern d s p m) m m′ (d + c) _ (omega arith) c P refl
       (line-read code source pattern d s p w m m′ 0 c c P hs (inr (omega arith)) (pattern-out 0 c c (omega arith))))
 
   descending : SourceStill true d s w → (c : ℕ) → c ≤ w
-      → Part d (line code source pattern d s p m) (w - c) w m (inTurn c (lineByte code source pattern true d s p w) m)
+      → Part d (becomes code source pattern d s p m) (w - c) w m (inTurn c (lineByte code source pattern true d s p w) m)
   unfolding inTurn lineByte
-  descending h zero l = let z : w - 0 ≡ w = omega arith in rw z (part-none d (line code source pattern d s p m) w m)
+  descending h zero l = let z : w - 0 ≡ w = omega arith in rw z (part-none d (becomes code source pattern d s p m) w m)
   descending h (suc c) l =
       let m′ = inTurn c (lineByte code source pattern true d s p w) m in
       let k = w - suc c in
       let e : w - c ≡ suc k = omega arith in
       let z : w - 1 - c ≡ k = omega arith in
-      let P : Part d (line code source pattern d s p m) (suc k) w m m′ = rw e at (descending h c (omega arith)) in
+      let P : Part d (becomes code source pattern d s p m) (suc k) w m m′ = rw e at (descending h c (omega arith)) in
       let hs : (s + k < d + suc k) ⊎ (d + w ≤ s + k) = ⊎-elim (λ q. inl (omega arith)) (λ q. inr (omega arith)) h in
       rw z
-      (part-down d (line code source pattern d s p m) m m′ (d + k) _ (omega arith) k w P (omega arith) refl
+      (part-down d (becomes code source pattern d s p m) m m′ (d + k) _ (omega arith) k w P (omega arith) refl
       (line-read code source pattern d s p w m m′ (suc k) w k P hs (inl (omega arith)) (pattern-out (suc k) w k (le-refl w))))
 
   pub line-part : (left : Bool) → SourceStill left d s w
-      → Part d (line code source pattern d s p m) 0 w m (inTurn w (lineByte code source pattern left d s p w) m)
+      → Part d (becomes code source pattern d s p m) 0 w m (inTurn w (lineByte code source pattern left d s p w) m)
   line-part false h = ascending h w (le-refl w)
   line-part true h = let z : w - w ≡ 0 = omega arith in rw z at (descending h w (le-refl w))

@@ -3,8 +3,8 @@
 use mathlib.Core.Path.{_≡_, refl, ap, _∙_}
 use mathlib.Core.List.{List}
 use mathlib.Core.Logic.{⊎-elim}
-use Prim.Native.Nat.{ℕ, zero, suc, _<_}
-use native.Mathlib.Nat.{not-suc-le-zero, le-refl, eq-or-lt-of-le, le-of-suc-le-suc}
+use Prim.Native.Nat.{ℕ, zero, suc, _+_, _<_}
+use native.Mathlib.Nat.{add-zero, add-suc, not-suc-le-zero, le-refl, eq-or-lt-of-le, le-of-suc-le-suc}
 use native.Mathlib.Omega.{arith}
 use lib.ListN.{getD}
 use Rattle.blit.specs.Transfer.{inTurn}
@@ -35,3 +35,9 @@ in-turn-at (suc n) f m x v k l e h =
     ⊎-elim (λ q. rw q at e)
     (λ q. h n q (le-refl (suc n)) (inTurn n f m) ∙ in-turn-at n f m x v k q e (λ j p r. h j p (omega arith)))
     (eq-or-lt-of-le (le-of-suc-le-suc l))
+
+-- the first a, and then b more
+pub in-turn-more : (a b : ℕ) (f : ℕ → List ℕ → List ℕ) (m : List ℕ) → inTurn (a + b) f m ≡ inTurn b (λ i m. f (a + i) m) (inTurn a f m)
+unfolding inTurn
+in-turn-more a zero f m = rw (add-zero a)
+in-turn-more a (suc b) f m = rw (add-suc a b) (ap (f (a + b)) (in-turn-more a b f m))

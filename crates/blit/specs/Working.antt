@@ -57,6 +57,11 @@ blendedByte code source d s f pat m = λ k. raster code (getD pat (f + k) 0) (co
 abbrev pub takenByte : ℕ → Bool → ℕ → ℕ → List ℕ → List ℕ → List ℕ → ℕ → ℕ
 takenByte code pattern d f pat src m = λ k. raster code (cond pattern (getD pat (f + k) 0) 0) (getD src k 0) (getD m (d + k) 0)
 
+-- what the line becomes where it reads nothing that it has written
+abbrev pub becomes : ℕ → Bool → Bool → ℕ → ℕ → ℕ → List ℕ → ℕ → ℕ
+becomes code source pattern d s p m =
+    λ k. raster code (cond pattern (getD m (p + (d + k) % 8) 0) 0) (cond source (getD m (s + k) 0) 0) (getD m (d + k) 0)
+
 -- m′ is m with byte k from `low` on being u k, for k from i to j
 pub record Part (low : ℕ) (u : ℕ → ℕ) (i j : ℕ) (m m′ : List ℕ) : Type 0 where
   pub same : length m′ ≡ length m

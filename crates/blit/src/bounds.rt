@@ -12,12 +12,14 @@ ghost use Rattle.blit.specs.Working.{Ranges, moved, lineLow, Missing};
 use crate::Area;
 use crate::Transfer;
 
+// Number 3 is for any other length.
 pub(crate) fn length_allowed(n: usize) -> bool
     ensures { λ r. ⌜ r ≡ lengthAllowed n ⌝ }
 {
     (4096 <= n) & (n <= 2_097_152) & (n % 4 == 0)
 }
 
+// Number 5 is for a transfer that is not.
 pub(crate) fn in_range(t: Transfer) -> bool
     ensures { λ r. ⌜ r ≡ inRange t ⌝ }
 {
@@ -30,18 +32,21 @@ pub(crate) fn in_range(t: Transfer) -> bool
         & (!raster::uses_pattern(t.code) | ((t.row <= 7) & (t.pattern % 64 == 0)))
 }
 
+// x if b, else y.
 fn choose(b: bool, x: usize, y: usize) -> usize
     ensures { λ r. ⌜ (r ≡ cond b x y) × (r ≤ x + y) ⌝ }
 {
     if b { x } else { y }
 }
 
+// The lesser of two.
 pub(crate) fn least(a: usize, b: usize) -> usize
     ensures { λ r. ⌜ (r ≤ a) × (r ≤ b) × ((x : ℕ) → x < a → x < b → x < r) ⌝ }
 {
     if a < b { a } else { b }
 }
 
+// So many lines of a span.
 fn times(lines: usize, span: u32) -> usize
     requires { ⌜ lines ≤ 8191 ⌝ }
     ensures { λ r. ⌜ (r ≡ lines * span) × (r < 2 ^ 45) ⌝ }
@@ -62,6 +67,7 @@ fn area_inside(n: usize, t: Transfer, a: Area) -> bool
     (behind <= at) & (at + ahead < n)
 }
 
+// An address moved back or ahead.
 fn move_by(back: bool, a: usize, x: usize) -> usize
     requires { ⌜ (cond back x 0 ≤ a) × (a + x < 2 ^ 64) ⌝ }
     ensures { λ r. ⌜ r ≡ moved back a x ⌝ }
@@ -133,6 +139,7 @@ fn pattern_inside(n: usize, t: Transfer) -> bool
     true
 }
 
+// Number 4 is for a transfer that is not.
 pub(crate) fn inside(n: usize, t: Transfer) -> bool
     requires { ⌜ Ranges t ⌝ }
     requires { ⌜ n ≤ 2097152 ⌝ }

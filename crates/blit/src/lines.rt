@@ -1,7 +1,7 @@
 // The lines of a transfer, each of which becomes what document 01's bytes, done one at a time, make of it.
-// Where no byte of a line is written before it is read, the order of its bytes does not matter: such a line is done in ascending
-// order, with its pattern laid out beside it, as a move, in place, or from a copy of its source. Any other is done byte by byte.
-// Which of these it is follows from where the line, its source and its pattern lie; each meets the same definition.
+// Where a line reads nothing that it has written, the order of its bytes does not matter: it is done in ascending order, with its
+// pattern laid out beside it, as a move, in place, or from a copy of its source. A line that reads what it wrote some way before
+// is done in pieces of that length, and any other byte by byte. Each way meets the same definition.
 
 ghost use mathlib.Core.Path.{_≡_};
 ghost use mathlib.Core.Bool.{cond, true, false};
@@ -11,7 +11,7 @@ ghost use lib.ListN.{length, getD};
 ghost use Rattle.raster.specs.Raster.{usesSource, usesPattern};
 ghost use Rattle.blit.specs.Transfer.{inMemory, inTurn, linesDone, patternLine};
 ghost use Rattle.blit.specs.Working.{Ranges, Part, Apart, SourceStill, PatternStill};
-ghost use Rattle.blit.specs.Working.{moved, byteAt, lineByte, lineLow, bytesFrom, plainByte, blendedByte, takenByte};
+ghost use Rattle.blit.specs.Working.{moved, byteAt, lineByte, lineLow, bytesFrom, plainByte, blendedByte, takenByte, becomes};
 use crate::Transfer;
 use crate::bounds::least;
 use crate::bounds::line_low;
@@ -174,6 +174,7 @@ fn copy(mem: &mut [u8], d: usize, s: usize, w: usize)
     put(mem, &buf, d, w);
 }
 
+// No byte of the source is written before it is read.
 fn source_still(left: bool, d: usize, s: usize, w: usize) -> bool
     requires { ⌜ (d + w < 2 ^ 63) × (s + w < 2 ^ 63) ⌝ }
     ensures { λ r. ⌜ (r ≡ true → SourceStill left d s w) ⌝ }
@@ -184,6 +185,7 @@ fn source_still(left: bool, d: usize, s: usize, w: usize) -> bool
     (d <= s) | (s + w <= d)
 }
 
+// The line writes none of its pattern's eight bytes, which all lie in memory.
 fn pattern_still(n: usize, d: usize, p: usize, w: usize) -> bool
     requires { ⌜ (d + w < 2 ^ 63) × (p < 2 ^ 62) ⌝ }
     ensures { λ r. ⌜ (r ≡ true → PatternStill n d p w) ⌝ }
@@ -191,11 +193,78 @@ fn pattern_still(n: usize, d: usize, p: usize, w: usize) -> bool
     (p + 8 <= n) & ((p + 8 <= d) | (d + w <= p))
 }
 
+// Source and destination have no byte in common, if there is a source.
 fn apart(source: bool, d: usize, s: usize, w: usize) -> bool
     requires { ⌜ (d + w < 2 ^ 63) × (s + w < 2 ^ 63) ⌝ }
     ensures { λ r. ⌜ (r ≡ true → source ≡ true → Apart d s w) ⌝ }
 {
     !source | (d + w <= s) | (s + w <= d)
+}
+
+// How far two addresses are apart.
+fn gap(a: usize, b: usize) -> usize
+    ensures { λ r. ⌜ (a ≤ b → a + r ≡ b) × (b ≤ a → b + r ≡ a) ⌝ }
+{
+    if a < b { b - a } else { a - b }
+}
+
+// The raster bytes of a line, by way of a copy of its source.
+fn piece(
+    mem: &mut [u8],
+    pat: &mut [u8],
+    src: &mut [u8],
+    code: u8,
+    pattern: bool,
+    d: usize,
+    s: usize,
+    p: usize,
+    w: usize,
+)
+    requires { ⌜ (d + w ≤ length (now mem)) × (s + w ≤ length (now mem)) × (w < 2 ^ 62) ⌝ }
+    requires { ⌜ (w + 8 ≤ length (now pat)) × (16 ≤ length (now pat)) × (w ≤ length (now src)) ⌝ }
+    requires { ⌜ (pattern ≡ true → p + 8 ≤ length (now mem)) ⌝ }
+    ensures { λ r. ⌜ Part d (becomes code true pattern d s p (now (mem .entry))) 0 w (now (mem .entry)) (now (mem .exit)) ⌝ }
+{
+    tile(mem, pat, pattern, p, d % 8 + w);
+    take(mem, src, s, w);
+    blend_taken(mem, pat, src, code, pattern, d, d % 8, w);
+}
+
+// Where n bytes begin that follow the first c of a line.
+fn piece_low(left: bool, w: usize, c: usize, n: usize) -> usize
+    requires { ⌜ c + n ≤ w ⌝ }
+    ensures { λ r. ⌜ (r ≡ cond left (w - c - n) c) × (r + n ≤ w) ⌝ }
+{
+    if left { w - c - n } else { c }
+}
+
+// A line that reads what it wrote k bytes before, k bytes at a time.
+fn pieces(
+    mem: &mut [u8],
+    pat: &mut [u8],
+    src: &mut [u8],
+    code: u8,
+    pattern: bool,
+    left: bool,
+    d: usize,
+    s: usize,
+    p: usize,
+    w: usize,
+    k: usize,
+)
+    requires { ⌜ (d + w ≤ length (now mem)) × (s + w ≤ length (now mem)) × (length (now mem) < 2 ^ 62) × (1 ≤ k) ⌝ }
+    requires { ⌜ (w + 8 ≤ length (now pat)) × (16 ≤ length (now pat)) × (w ≤ length (now src)) ⌝ }
+    requires { ⌜ (pattern ≡ true → PatternStill (length (now mem)) d p w) ⌝ }
+    requires { ⌜ SourceStill left d s k ⌝ }
+    ensures { λ r. ⌜ now (mem .exit) ≡ inTurn w (lineByte code (usesSource code) pattern left d s p w) (now (mem .entry)) ⌝ }
+{
+    let mut c = 0;
+    while c < w {
+        let n = least(w - c, k);
+        let o = piece_low(left, w, c, n);
+        piece(mem, pat, src, code, pattern, d + o, s + o, p, n);
+        c += n;
+    }
 }
 
 // A line, by the quickest way that it allows.
@@ -218,28 +287,36 @@ fn line(
     requires { ⌜ (source ≡ usesSource code) × (pattern ≡ usesPattern code) × (source ≡ false → s ≡ d) ⌝ }
     ensures { λ r. ⌜ now (mem .exit) ≡ inTurn w (lineByte code source pattern left d s p w) (now (mem .entry)) ⌝ }
 {
-    let still = source_still(left, d, s, w) & (!pattern | pattern_still(mem.len(), d, p, w));
-    if !still {
+    if pattern & !pattern_still(mem.len(), d, p, w) {
         one_by_one(mem, code, source, pattern, left, d, s, p, w);
+        return;
+    }
+    if !source_still(left, d, s, w) {
+        let k = gap(d, s);
+        if k < 32 {
+            one_by_one(mem, code, source, pattern, left, d, s, p, w);
+            return;
+        }
+        pieces(mem, pat, src, code, pattern, left, d, s, p, w, k);
         return;
     }
     if code == 0xCC {
         copy(mem, d, s, w);
         return;
     }
-    tile(mem, pat, pattern, p, d % 8 + w);
     if !apart(source, d, s, w) {
-        take(mem, src, s, w);
-        blend_taken(mem, pat, src, code, pattern, d, d % 8, w);
+        piece(mem, pat, src, code, pattern, d, s, p, w);
         return;
     }
     if pattern {
+        tile(mem, pat, true, p, d % 8 + w);
         blend(mem, pat, code, source, d, s, d % 8, w);
         return;
     }
     blend_plain(mem, code, d, s, w);
 }
 
+// The lowest address of a line's source or, for want of one, of its destination again.
 fn source_low(t: Transfer, source: bool, r: usize, d: usize) -> usize
     requires { ⌜ Ranges t ⌝ }
     requires { ⌜ r ≤ 8191 ⌝ }
@@ -253,6 +330,7 @@ fn source_low(t: Transfer, source: bool, r: usize, d: usize) -> usize
     d
 }
 
+// The first of a line's eight pattern bytes, 0 for want of a pattern.
 fn pattern_low(t: Transfer, pattern: bool, r: usize) -> usize
     requires { ⌜ r ≤ 8191 ⌝ }
     ensures { λ res. ⌜ (res ≡ cond pattern (patternLine t r) 0) × (res < 2 ^ 33) ⌝ }

@@ -1,4 +1,5 @@
--- For the contracts of private functions alone: a choice between two bits by a third.
+-- For the contracts of private functions alone: nothing here has to be believed. A choice between two bits by a third, a where it
+-- is 0 and b where it is 1.
 use Prim.Native.Nat.{ℕ}
 use mathlib.Core.Bool.{cond}
 use lib.Dec.{eqb}

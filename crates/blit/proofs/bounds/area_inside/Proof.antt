@@ -7,7 +7,8 @@ use Rattle.blit.proofs.bounds.area_inside.Tie as tie
 returns : tie.Need-returns
 returns c =
     let b = c .before .before .before .before .before .before .before .before in
-    cc (outermost (b .args .n) (b .args .t) (b .args .a) (b .pre .wide) (b .pre .high))
+    rw (c .choose4 .ensures .0, c .before .choose3 .ensures .0, c .before .before .choose2 .ensures .0, c .before .before .before .choose .ensures .0, c .before .before .before .before .before .times .ensures .0)
+    (outermost (b .args .n) (b .args .t) (b .args .a) (b .pre .wide) (b .pre .high))
 
 pub area-inside-spec : {M : Type 1} → statement M
 area-inside-spec =
