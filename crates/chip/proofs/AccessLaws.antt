@@ -7,7 +7,7 @@ use lib.Dec.{eqb}
 use native.Mathlib.Omega.{arith}
 use mathlib.Core.Bool.{Bool, true, false, cond, _||_}
 use mathlib.Core.Path.{_≡_, refl, ap, _∙_}
-use Rattle.registers.specs.Bits.{bit}
+use Rattle.lists.specs.Bits.{bit}
 use Rattle.lists.specs.Scan.{every}
 use Rattle.lists.proofs.Scan.{every-at}
 use Rattle.registers.proofs.WriteLaws.{CR00-to-CR06-locked, CR07-bit-4-open}

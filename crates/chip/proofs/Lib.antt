@@ -1,3 +1,6 @@
+-- The laws of this crate: of names (NameLaws), accesses (AccessLaws), numbers (NumberLaws), indexes (IndexLaws), the palette by ports
+-- (PaletteLaws), the reset (ResetLaws), sizes (SizeLaws) and reached states (ReachLaws). Banks and Reached are for their proofs.
+-- The other folders have a function's proof each.
 pub mod Reached
 pub mod Banks
 pub mod NameLaws

@@ -8,7 +8,7 @@ use lib.ListN.{getD, set, length}
 use lib.Seq.{getD-set-same, getD-set-other}
 use borrow.Author.Tests.{eqb-true, eqb-false}
 use lib.Dec.{eqb}
-use Rattle.registers.specs.Bits.{bit, isSet}
+use Rattle.lists.specs.Bits.{bit, isSet}
 use Rattle.registers.specs.Groups.{numberOf, is, rowOf}
 use Rattle.registers.specs.WriteRule.{leftOpen, writableNow, written}
 use Rattle.registers.proofs.WriteLaws.{bit-written, written-byte, byte-now}

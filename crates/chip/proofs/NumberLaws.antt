@@ -12,6 +12,8 @@ use Rattle.chip.specs.State.{named}
 use Rattle.chip.specs.Names.{portsOpen, colour}
 use Rattle.chip.specs.Access.{numberOf, isListed, accessNumber, writeTo, readFrom, portWritten, portRead, wrote, seen}
 use Rattle.chip.specs.declared.Chip.{Chip}
+use Rattle.chip.specs.declared.access.Wrote.{Wrote}
+use Rattle.chip.specs.declared.access.Seen.{Seen}
 use Rattle.chip.specs.declared.access.Answer.the-variants.{Closed}
 use Rattle.chip.proofs.AccessLaws.{write-closed, read-closed, write-open, read-open}
 
@@ -57,6 +59,13 @@ read-number c p = go (portsOpen (named c))
     go : (z : Bool) → numberOf (cond z (readFrom t c) (seen Closed 0xFF c) .answer) ≡ cond z (cond (isListed t) 0 1) 2
     go true = target-number t c 0 .1
     go false = refl
+
+-- what the contracts of `write` and `read` say, from the one equation
+pub write-answered : (c : Chip) (p v : ℕ) {r : Wrote} → r ≡ portWritten c p v → (r ≡ portWritten c p v) × (numberOf (r .answer) ≡ accessNumber true c p)
+write-answered c p v e = (e, ap (λ (w : Wrote). numberOf (w .answer)) e ∙ write-number c p v)
+
+pub read-answered : (c : Chip) (p : ℕ) {r : Seen} → r ≡ portRead c p → (r ≡ portRead c p) × (numberOf (r .answer) ≡ accessNumber false c p)
+read-answered c p e = (e, ap (λ (s : Seen). numberOf (s .answer)) e ∙ read-number c p)
 
 -- each number exactly when: 2 if the ports are closed, 1 if they are open and the port or its direction is not listed, 0 if they
 -- are open and it is

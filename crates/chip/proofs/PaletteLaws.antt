@@ -8,7 +8,7 @@ use mathlib.Core.Path.{_≡_, refl, ap, _∙_}
 use lib.Dec.{eqb}
 use lib.ListN.{length}
 use lib.Seq.{getD-set-same, getD-set-other}
-use Rattle.registers.specs.Bits.{isSet}
+use Rattle.lists.specs.Bits.{isSet}
 use Rattle.registers.specs.Extension.{XR}
 use Rattle.registers.specs.Groups.{rowOf}
 use Rattle.registers.specs.WriteRule.{writableNow}

@@ -7,7 +7,7 @@ use mathlib.Core.Bool.{true}
 use mathlib.Core.Path.{_≡_, refl, sym, ap, _∙_}
 use lib.Dec.{eqb}
 use lib.Bits.{bitAnd, or-zero-r, and-mask}
-use Rattle.registers.specs.Bits.{bit, isSet}
+use Rattle.lists.specs.Bits.{bit, isSet}
 use Rattle.registers.specs.Extension.{XR}
 use Rattle.registers.specs.Groups.{rowOf, writableOf}
 use Rattle.registers.proofs.WriteLaws.{locked-fewer, bit-and, bit-or, same-bits}

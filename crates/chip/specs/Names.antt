@@ -4,7 +4,7 @@
 use Prim.Native.Nat.{ℕ}
 use mathlib.Core.Bool.{Bool, false, cond}
 use lib.ListN.{getD, set}
-use Rattle.registers.specs.Bits.{isSet}
+use Rattle.lists.specs.Bits.{isSet}
 use Rattle.registers.specs.Groups.{is}
 use Rattle.registers.specs.WriteRule.{writableNow, written}
 use Rattle.registers.specs.declared.Group.{Group}

@@ -1,5 +1,5 @@
 -- The state in two parts: what has a name (registers and colours), and the rest (the six indexes, the palette's loading
--- state). Document 01, "Ports": the chip state. Every access is said as a change of one part or the other.
+-- state). Document 01, "Ports": the chip state. Every access is said as a change of these parts.
 use Prim.Native.Nat.{ℕ}
 use mathlib.Core.Bool.{cond}
 use mathlib.Core.List.{List}

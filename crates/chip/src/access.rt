@@ -1,8 +1,9 @@
 // Port reads and writes. Document 01, "Ports" and numbers 0, 1 and 2. A refused access hands back the
 // state as it was.
+ghost use mathlib.Core.Bool.{true, false};
 ghost use mathlib.Core.Path.{_≡_};
 ghost use Rattle.chip.specs.State.{named, join, indexOf, withIndex};
-ghost use Rattle.chip.specs.Access.{numberOf, portWritten, portRead};
+ghost use Rattle.chip.specs.Access.{numberOf, accessNumber, portWritten, portRead};
 use crate::Chip;
 use ports::Target;
 use ports::leads_to;
@@ -76,6 +77,7 @@ impl Chip {
     // A port write.
     pub fn write(self, port: u16, v: u8) -> Wrote
         ensures { λ r. ⌜ r ≡ portWritten self port v ⌝ }
+        ensures { λ r. ⌜ numberOf (r .answer) ≡ accessNumber true self port ⌝ }
     {
         if !self.is_open() {
             return Wrote {
@@ -118,6 +120,7 @@ impl Chip {
     // A port read.
     pub fn read(self, port: u16) -> Seen
         ensures { λ r. ⌜ r ≡ portRead self port ⌝ }
+        ensures { λ r. ⌜ numberOf (r .answer) ≡ accessNumber false self port ⌝ }
     {
         if !self.is_open() {
             return Seen {

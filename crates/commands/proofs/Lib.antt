@@ -1,3 +1,5 @@
+-- The laws of this crate: bytes and commands (Codec), how many a step has (Expanding), the translation's answers (Translating). Sending is
+-- for the proofs of the writers. The other folders have a function's proof each.
 pub mod Codec
 pub mod Sending
 pub mod Expanding

@@ -23,6 +23,7 @@ use Rattle.script.proofs.Checking.{Legal, answer-says}
 use Rattle.commands.specs.Command.{bytesOfAll}
 use Rattle.commands.specs.Expansion.{expanded, commandsOf}
 use Rattle.commands.specs.Translation.{stepsTo, commandsTo, begins, Sent, ifRoom, translated, leftBy, numbersOf, translationTable}
+use Rattle.commands.specs.declared.Translated.{Translated}
 use Rattle.commands.specs.declared.Translated.the-variants.{Commands, Refused}
 use Rattle.commands.proofs.Sending.{sent-append, sent-none}
 use Rattle.commands.proofs.Expanding.{commands-next}
@@ -88,3 +89,8 @@ translated-number f room =
     go false true d = refl
     go false false true = refl
     go false false false = of-cond numbersOf (ltb room (32 * stepCount f)) (Refused Room) (Commands (begins f (stepCount f)))
+
+-- what the contract of `translate` says, from the answer and the output
+pub translated-answered : (f o : List ℕ) {r : Translated} {o′ : List ℕ} → r ≡ translated f (length o) → o′ ≡ leftBy r f o
+    → (r ≡ translated f (length o)) × ((o′ ≡ leftBy r f o) × (numbersOf r ≡ translationTable f (length o)))
+translated-answered f o is left = (is, (left, ap numbersOf is ∙ translated-number f (length o)))

@@ -1,3 +1,4 @@
+-- What has to be believed of commands: their bytes (Command), those of a step (Expansion), those of a file (Translation).
 pub mod Command
 pub mod Expansion
 pub mod Translation

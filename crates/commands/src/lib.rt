@@ -7,7 +7,7 @@ ghost use lib.ListN.{length};
 ghost use Rattle.script.specs.File.{checked};
 ghost use Rattle.commands.specs.Command.{bytesOf, commandOf};
 ghost use Rattle.commands.specs.Expansion.{ways as waysOf, setBy, fieldBy, expanded};
-ghost use Rattle.commands.specs.Translation.{Sent, commandsTo, translated, leftBy};
+ghost use Rattle.commands.specs.Translation.{Sent, commandsTo, translated, leftBy, numbersOf, translationTable};
 use reader::nth;
 use script::Checked;
 use script::Next;
@@ -242,6 +242,7 @@ fn put_steps(file: &[u8], m: usize, out: &mut [u8]) -> usize
 pub fn translate(file: &[u8], out: &mut [u8]) -> Translated
     ensures { λ r. ⌜ r ≡ translated (now (file .entry)) (length (now (out .entry))) ⌝ }
     ensures { λ r. ⌜ now (out .exit) ≡ leftBy r (now (file .entry)) (now (out .entry)) ⌝ }
+    ensures { λ r. ⌜ numbersOf r ≡ translationTable (now (file .entry)) (length (now (out .entry))) ⌝ }
 {
     match check_file(file) {
         Checked::Refused(r) => Translated::Refused(r),

@@ -1,3 +1,5 @@
+-- The laws of this crate: of digits (DigitLaws), lines (LineLaws) and the text (TextLaws), with worked cases (Cases). Adding and Listing are for
+-- the proofs. The other folders have a function's proof each.
 pub mod DigitLaws
 pub mod LineLaws
 pub mod Adding

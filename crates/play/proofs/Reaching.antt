@@ -7,12 +7,12 @@ use mathlib.Core.Bool.{Bool, true, false}
 use mathlib.Core.Path.{_≡_, refl, ap, sym}
 use lib.Dec.{eqb}
 use borrow.Author.Tests.{eqb-true, le-ltb}
-use Rattle.registers.specs.Bits.{bit, isSet}
+use Rattle.lists.specs.Bits.{bit, isSet}
 use Rattle.registers.specs.Extension.{XR}
-use Rattle.registers.specs.Groups.{rowOf, writableOf}
+use Rattle.registers.specs.Groups.{numberOf, rowOf, writableOf}
 use Rattle.registers.proofs.WriteLaws.{locked-fewer}
 use Rattle.registers.specs.declared.Group.{Group}
-use Rattle.registers.specs.declared.Group.the-variants.{Cr, Xr}
+use Rattle.registers.specs.declared.Group.the-variants.{Cr, Sr, Gr, Xr, Fr, Mr, Msr, Palmask}
 use Rattle.ports.specs.Ports.{ports, target}
 use Rattle.ports.specs.declared.Target.the-variants.{Index, Data, NotPicked}
 use Rattle.chip.specs.State.{Named, indexOf, withIndex}
@@ -67,6 +67,18 @@ leads b (suc (suc (suc (suc (suc (suc (suc zero))))))) i h = (refl, refl, λ y. 
 leads b (suc (suc (suc (suc (suc (suc (suc (suc group)))))))) i h =
     let k : ℕ = suc (suc (suc (suc (suc (suc (suc (suc group))))))) in
     absurd (false-true (rw (le-ltb k 6 (omega arith), le-ltb k 8 (omega arith)) at h))
+
+-- the group of a group's number is the group
+pub group-numbered : (g : Group) → groupAt (numberOf g) ≡ g
+unfolding groupAt
+group-numbered Cr = refl
+group-numbered Sr = refl
+group-numbered Gr = refl
+group-numbered Xr = refl
+group-numbered Fr = refl
+group-numbered Mr = refl
+group-numbered Msr = refl
+group-numbered Palmask = refl
 
 -- ---- the ports stay open
 XR70-fixed : writableOf Xr 0x70 ≡ 0x00

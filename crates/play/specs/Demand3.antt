@@ -5,7 +5,7 @@ use Prim.Native.Nat.{ℕ, _≤_}
 use mathlib.Core.Path.{_≡_}
 use mathlib.Core.Bool.{true}
 use mathlib.Core.List.{List}
-use Rattle.registers.specs.Bits.{isSet}
+use Rattle.lists.specs.Bits.{isSet}
 use Rattle.chip.specs.State.{named}
 use Rattle.chip.specs.Reach.{Reach}
 use Rattle.chip.specs.declared.Chip.{Chip}

@@ -7,7 +7,8 @@ use native.Mathlib.Nat.{div-add-mod', mod-lt, pow-suc}
 use native.Mathlib.Omega.{arith}
 use lib.Dec.{lit<}
 use lib.Bits.{bitAnd, bitXor, and-shr, xor-shr, and-mod, xor-mod, and-zero-r}
-use Rattle.raster.specs.Raster.{bit, number}
+use Rattle.lists.specs.Bits.{bit}
+use Rattle.raster.specs.Raster.{number}
 use Rattle.raster.specs.Choice.{either}
 use Rattle.raster.specs.Laws.{two, bit-zero, bit-suc, bit-number, number-same}
 

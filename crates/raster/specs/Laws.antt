@@ -8,7 +8,8 @@ use native.Mathlib.Nat.{mod-lt, pow-suc, mul-comm, div-one, div-div-eq-div-mul, 
 use native.Mathlib.Omega.{arith}
 use lib.Dec.{lit<, eqb}
 use borrow.Author.Tests.{eqb-true, not-false}
-use Rattle.raster.specs.Raster.{bit, number, index, raster, every, usesSource, usesPattern}
+use Rattle.lists.specs.Bits.{bit}
+use Rattle.raster.specs.Raster.{number, index, raster, every, usesSource, usesPattern}
 
 -- ---- a test at each number below n
 

@@ -4,10 +4,7 @@
 use Prim.Native.Nat.{ℕ, zero, suc, _+_, _*_, _/_, _%_, _^_}
 use mathlib.Core.Bool.{Bool, true, _&&_, not}
 use lib.Dec.{eqb}
-
--- bit k of x
-abbrev pub bit : ℕ → ℕ → ℕ
-bit k x = x / 2 ^ k % 2
+use Rattle.lists.specs.Bits.{bit}
 
 -- the number of n bits whose bit i is f i
 unfoldable pub number : ℕ → (ℕ → ℕ) → ℕ

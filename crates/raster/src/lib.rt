@@ -5,7 +5,8 @@
 
 ghost use mathlib.Core.Path.{_≡_};
 ghost use Prim.Native.Nat.{_+_, _*_, _≤_, _<_};
-ghost use Rattle.raster.specs.Raster.{bit, number, raster, usesSource, usesPattern};
+ghost use Rattle.lists.specs.Bits.{bit};
+ghost use Rattle.raster.specs.Raster.{number, raster, usesSource, usesPattern};
 ghost use Rattle.raster.specs.Choice.{either};
 
 // A byte with all its bits as bit k of the code.

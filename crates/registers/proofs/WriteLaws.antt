@@ -9,7 +9,7 @@ use lib.Pow.{shr-shr, shr-lt}
 use native.Mathlib.Numerals.{add-one}
 use lib.Bits.{bitAnd, bitOr, and-shr, and-mod, or-shr, or-mod, and-zero-r, or-zero-l, or-zero-r, and-zero-l, and-mask, or-lt, and-le-l}
 use borrow.Author.Tests.{eqb-true, lt-ltb}
-use Rattle.registers.specs.Bits.{bit, isSet}
+use Rattle.lists.specs.Bits.{bit, isSet}
 use Rattle.registers.specs.CrtController.{CR}
 use Rattle.registers.specs.Groups.{rowOf, writableOf}
 use Rattle.registers.specs.WriteRule.{leftOpen, writableNow, written}

@@ -1,4 +1,4 @@
-pub mod Bits
+-- What has to be believed of the registers: the tables, a chapter a file, with Rows and Groups, and the write rule (WriteRule).
 pub mod Rows
 pub mod CrtController
 pub mod Sequencer

@@ -1,11 +1,13 @@
 -- Laws of the run: its count is the least of the limit, the commands there are and those before the first refused one; a run
 -- of two lists is the run of the second from where the first left off; a larger limit extends the shorter run; and the
 -- bytes of commands run as those commands.
-use Prim.Native.Nat.{ℕ, zero, suc, _+_, _-_, _*_, _%_, _≤_, min}
+use Prim.Native.Nat.{ℕ, zero, suc, _+_, _-_, _*_, _/_, _%_, _≤_, _<_, min}
 use lib.Seq.{length-take-le}
 use native.Mathlib.Omega.{arith}
+use mathlib.Core.Bool.{Bool, true, false, cond}
 use mathlib.Core.Path.{_≡_, refl, _∙_, ap, sym}
 use mathlib.Core.List.{List, [], _∷_, _++_}
+use lib.Dec.{eqb}
 use lib.ListN.{length, take, drop, take-append-drop}
 use Rattle.chip.specs.declared.Chip.{Chip}
 use Rattle.commands.specs.Command.{bytesOf, bytesOfAll}
@@ -15,13 +17,14 @@ use Rattle.commands.specs.declared.Command.the-variants.{Out, In, Merge, OutAcc
 use Rattle.commands.specs.declared.CommandRead.{CommandRead}
 use Rattle.commands.specs.declared.CommandRead.the-variants.{Known}
 use Rattle.lists.specs.Numbers.{returned}
-use Rattle.run.specs.Run.{did, one, following, ranTo, runFrom, afterDone, carry, more, carried, reads, ran, ofEnding}
+use Rattle.run.specs.Run.{did, one, following, ranTo, runFrom, afterDone, carry, more, carried, reads, ran, least, ofEnding}
 use Rattle.run.specs.declared.Did.{Did}
 use Rattle.run.specs.declared.Ran.{Ran}
 use Rattle.run.specs.declared.Reason.{Reason}
+use Rattle.run.specs.declared.Reason.the-variants.{Form}
 use Rattle.run.specs.declared.Verdict.{Verdict}
 use Rattle.run.specs.declared.Verdict.the-variants.{Done, Bad}
-use Rattle.run.specs.declared.Ending.the-variants.{Stopped}
+use Rattle.run.specs.declared.Ending.the-variants.{Ended, AtLimit, Stopped}
 use Rattle.run.proofs.Turns.{whole}
 
 -- ---- the count
@@ -47,13 +50,97 @@ counts (r ∷ rs) c acc k (suc left) =
     go Done x h = omega arith
     go (Bad why) x h = omega arith
 
--- the count of a run of whole commands
-pub count-least : (c : Chip) (bytes : List ℕ) (limit : ℕ) → length bytes % 4 ≡ 0
-    → (ran c bytes limit .count ≡ min limit (carried c 0 (reads bytes))) × (carried c 0 (reads bytes) ≤ length (reads bytes))
-count-least c bytes limit even = (
-  ap (λ (r : Ran). r .count) (sym (whole c bytes limit even)) ∙ counts (reads bytes) c 0 0 _ ∙ omega arith,
-  carried-most (reads bytes) c 0,
-)
+-- four bytes to a command
+length-reads : (bytes : List ℕ) → length (reads bytes) ≡ length bytes / 4
+unfolding reads
+length-reads [] = refl
+length-reads (a ∷ []) = refl
+length-reads (a ∷ b ∷ []) = refl
+length-reads (a ∷ b ∷ c ∷ []) = refl
+length-reads (a ∷ b ∷ c ∷ d ∷ l) = let h : length (reads l) ≡ length l / 4 = length-reads l in omega arith
+
+-- the count of a run is the least of the limit, the commands there are and those before the first refused one
+pub count-least : (c : Chip) (bytes : List ℕ) (limit : ℕ) → ran c bytes limit .count ≡ least c bytes limit
+unfolding ran
+count-least c bytes limit = go (eqb (length bytes % 4) 0)
+  where
+    most : carried c 0 (reads bytes) ≤ length bytes / 4
+    most = omega (arith, carried-most (reads bytes) c 0, length-reads bytes)
+
+    go : (z : Bool) → cond z (runFrom c 0 0 limit (reads bytes)) (ranTo c 0 (Stopped 0 Form)) .count
+        ≡ cond z (min limit (min (length bytes / 4) (carried c 0 (reads bytes)))) 0
+    go true = counts (reads bytes) c 0 0 limit ∙ omega (arith, most)
+    go false = refl
+
+-- what the contract of `run` says, from the one equation
+pub run-answered : (c : Chip) (bytes : List ℕ) (limit : ℕ) {r : Ran} → r ≡ ran c bytes limit → (r ≡ ran c bytes limit) × (r .count ≡ least c bytes limit)
+run-answered c bytes limit e = (e, ap (λ (r : Ran). r .count) e ∙ count-least c bytes limit)
+
+-- ---- the endings: a stop's place is the count; it is the end exactly where every command was done; and a larger limit leaves a
+-- stopped run as it is
+never : {A : Type 0} → Ended ≡ AtLimit → A
+never h = absurd (let z : _≡_ {A = ℕ} 0 1 = cc in omega arith)
+
+module _ (p : ℕ) (why : Reason) where
+  pub stop-place : (rs : List CommandRead) (c : Chip) (acc k left : ℕ) → runFrom c acc k left rs .ending ≡ Stopped p why → runFrom c acc k left rs .count ≡ p
+  unfolding runFrom
+  stop-place [] c acc k left h = absurd (let z : _≡_ {A = ℕ} 0 1 = cc in omega arith)
+  stop-place (r ∷ rs) c acc k zero h = absurd (let z : _≡_ {A = ℕ} 0 1 = cc in omega arith)
+  stop-place (r ∷ rs) c acc k (suc left) h = go (one c acc r .verdict) (stop-place rs (one c acc r .chip) (one c acc r .acc) (k + 1) left) h
+    where
+      go : (v : Verdict)
+          → (runFrom (one c acc r .chip) (one c acc r .acc) (k + 1) left rs .ending ≡ Stopped p why
+          → runFrom (one c acc r .chip) (one c acc r .acc) (k + 1) left rs .count ≡ p)
+          → following v (runFrom (one c acc r .chip) (one c acc r .acc) (k + 1) left rs) (λ w. ranTo c k (Stopped k w)) .ending ≡ Stopped p why
+          → following v (runFrom (one c acc r .chip) (one c acc r .acc) (k + 1) left rs) (λ w. ranTo c k (Stopped k w)) .count ≡ p
+      go Done f e = f e
+      go (Bad w) f e = cc
+
+  pub stop-stays : (rs : List CommandRead) (c : Chip) (acc k left more : ℕ) → runFrom c acc k left rs .ending ≡ Stopped p why
+      → runFrom c acc k (left + more) rs ≡ runFrom c acc k left rs
+  unfolding runFrom
+  stop-stays [] c acc k left more h = refl
+  stop-stays (r ∷ rs) c acc k zero more h = absurd (let z : _≡_ {A = ℕ} 0 1 = cc in omega arith)
+  stop-stays (r ∷ rs) c acc k (suc left) more h =
+      let e : suc left + more ≡ suc (left + more) = omega arith in
+      rw e (go (one c acc r .verdict) (stop-stays rs (one c acc r .chip) (one c acc r .acc) (k + 1) left more) h)
+    where
+      go : (v : Verdict)
+          → (runFrom (one c acc r .chip) (one c acc r .acc) (k + 1) left rs .ending ≡ Stopped p why
+          → runFrom (one c acc r .chip) (one c acc r .acc) (k + 1) (left + more) rs ≡ runFrom (one c acc r .chip) (one c acc r .acc) (k + 1) left rs)
+          → following v (runFrom (one c acc r .chip) (one c acc r .acc) (k + 1) left rs) (λ w. ranTo c k (Stopped k w)) .ending ≡ Stopped p why
+          → following v (runFrom (one c acc r .chip) (one c acc r .acc) (k + 1) (left + more) rs) (λ w. ranTo c k (Stopped k w))
+          ≡ following v (runFrom (one c acc r .chip) (one c acc r .acc) (k + 1) left rs) (λ w. ranTo c k (Stopped k w))
+      go Done f e = f e
+      go (Bad w) f e = refl
+
+pub end-all : (rs : List CommandRead) (c : Chip) (acc k left : ℕ) → runFrom c acc k left rs .ending ≡ Ended → runFrom c acc k left rs .count ≡ k + length rs
+unfolding runFrom
+end-all [] c acc k left h = omega arith
+end-all (r ∷ rs) c acc k zero h = never (sym h)
+end-all (r ∷ rs) c acc k (suc left) h = go (one c acc r .verdict) (end-all rs (one c acc r .chip) (one c acc r .acc) (k + 1) left) h
+  where
+    go : (v : Verdict)
+        → (runFrom (one c acc r .chip) (one c acc r .acc) (k + 1) left rs .ending ≡ Ended
+        → runFrom (one c acc r .chip) (one c acc r .acc) (k + 1) left rs .count ≡ k + 1 + length rs)
+        → following v (runFrom (one c acc r .chip) (one c acc r .acc) (k + 1) left rs) (λ w. ranTo c k (Stopped k w)) .ending ≡ Ended
+        → following v (runFrom (one c acc r .chip) (one c acc r .acc) (k + 1) left rs) (λ w. ranTo c k (Stopped k w)) .count ≡ k + suc (length rs)
+    go Done f e = let h = f e in omega arith
+    go (Bad w) f e = absurd (let z : _≡_ {A = ℕ} 0 1 = cc in omega arith)
+
+pub all-end : (rs : List CommandRead) (c : Chip) (acc k left : ℕ) → runFrom c acc k left rs .count ≡ k + length rs → runFrom c acc k left rs .ending ≡ Ended
+unfolding runFrom
+all-end [] c acc k left h = refl
+all-end (r ∷ rs) c acc k zero h = absurd (omega arith)
+all-end (r ∷ rs) c acc k (suc left) h = go (one c acc r .verdict) (all-end rs (one c acc r .chip) (one c acc r .acc) (k + 1) left) h
+  where
+    go : (v : Verdict)
+        → (runFrom (one c acc r .chip) (one c acc r .acc) (k + 1) left rs .count ≡ k + 1 + length rs
+        → runFrom (one c acc r .chip) (one c acc r .acc) (k + 1) left rs .ending ≡ Ended)
+        → following v (runFrom (one c acc r .chip) (one c acc r .acc) (k + 1) left rs) (λ w. ranTo c k (Stopped k w)) .count ≡ k + suc (length rs)
+        → following v (runFrom (one c acc r .chip) (one c acc r .acc) (k + 1) left rs) (λ w. ranTo c k (Stopped k w)) .ending ≡ Ended
+    go Done f e = f (omega arith)
+    go (Bad w) f e = absurd (omega arith)
 
 -- ---- one list behind another
 different : (why : Reason) → Bad why ≡ Done → ⊥

@@ -1,1 +1,2 @@
+-- What has to be believed of a run is in Run.
 pub mod Run

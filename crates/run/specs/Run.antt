@@ -1,7 +1,7 @@
 -- The run of commands. Document 01, "Commands": the accumulator starts at 0; for each command 10 comes before 2 and 2 before 1, and
 -- MERGE is no port access; a limit met at a bad command counts first; with every command done it is the end. A stopped run
 -- hands back the state that its earlier commands left. Its laws are in proofs/RunLaws.
-use Prim.Native.Nat.{ℕ, zero, suc, _+_, _%_}
+use Prim.Native.Nat.{ℕ, zero, suc, _+_, _/_, _%_, min}
 use mathlib.Core.Bool.{cond}
 use mathlib.Core.List.{List, [], _∷_}
 use lib.Dec.{eqb}
@@ -100,6 +100,10 @@ reads (a ∷ b ∷ c ∷ d ∷ l) = commandOf a b c d ∷ reads l
 -- the run of command bytes: a length that is no multiple of 4 is refused before any runs
 unfoldable pub ran : Chip → List ℕ → ℕ → Ran
 ran c bytes limit = cond (eqb (length bytes % 4) 0) (runFrom c 0 0 limit (reads bytes)) (ranTo c 0 (Stopped 0 Form))
+
+-- "the least of the limit, the commands there are, and those before the first refused one"; none where the length is refused
+abbrev pub least : Chip → List ℕ → ℕ → ℕ
+least c bytes limit = cond (eqb (length bytes % 4) 0) (min limit (min (length bytes / 4) (carried c 0 (reads bytes)))) 0
 
 -- document 01's number of a reason, and the number and value of an ending: a refusal's place; the end and the limit are 0
 abbrev pub numberOf : Reason → ℕ

@@ -2,7 +2,7 @@
 // order, and the form of the result: an enum that says how it ended, with an inner enum for the reason.
 ghost use mathlib.Core.Path.{_≡_};
 ghost use Rattle.commands.specs.Command.{commandOf};
-ghost use Rattle.run.specs.Run.{answered, done, one, ran as ranOf};
+ghost use Rattle.run.specs.Run.{answered, done, one, ran as ranOf, least};
 use chip::Chip;
 use chip::access::Answer;
 use commands::Command;
@@ -114,6 +114,7 @@ pub fn command(chip: Chip, acc: u8, a: u8, b: u8, c: u8, d: u8) -> Did
 // The commands of a list, up to a limit.
 pub fn run(chip: Chip, commands: &[u8], limit: usize) -> Ran
     ensures { λ r. ⌜ r ≡ ranOf chip (now (commands .entry)) limit ⌝ }
+    ensures { λ r. ⌜ r .count ≡ least chip (now (commands .entry)) limit ⌝ }
 {
     let size = commands.len();
     let mut chip = chip;

@@ -1,1 +1,2 @@
+-- Document 01's set-ups as a table.
 pub mod Setups

@@ -8,6 +8,7 @@ use native.Mathlib.Omega.{arith}
 use borrow.Author.Tests.{lt-ltb, le-ltb, eqb-true, eq-eqb}
 use lib.Dec.{eqb}
 use lib.Bits.{bitAnd, and-step, and-shr, and-zero-l}
+use Rattle.lists.specs.Bits.{bit}
 use Rattle.steps.specs.Step.{names, within, legal}
 use Rattle.steps.specs.declared.Step.the-variants.{Field}
 
@@ -29,18 +30,15 @@ unfolding legal
 field-no-mask g i = and-true (names g i)
 
 -- ---- "value has no bit outside mask": at every place the value's bit is at most the mask's
-abbrev pub bit : ℕ → ℕ → ℕ
-bit n k = n / 2 ^ k % 2
-
-pub within-bits : (v m : ℕ) → within v m ≡ true → (k : ℕ) → bit v k ≤ bit m k
+pub within-bits : (v m : ℕ) → within v m ≡ true → (k : ℕ) → bit k v ≤ bit k m
 within-bits v m e k =
     let h : bitAnd (v / 2 ^ k) (m / 2 ^ k) ≡ v / 2 ^ k = sym (and-shr v m k) ∙ ap (λ (n : ℕ). n / 2 ^ k) (eqb-true _ _ e) in
     omega (arith, and-step (v / 2 ^ k) (m / 2 ^ k))
 
-half : (v k : ℕ) → bit (v / 2) k ≡ bit v (suc k)
+half : (v k : ℕ) → bit k (v / 2) ≡ bit (suc k) v
 half v k = ap (λ (n : ℕ). n % 2) (div-div-eq-div-mul v 2 (2 ^ k) ∙ ap (λ (n : ℕ). v / n) (sym (pow-succ' 2 k)))
 
-same : (n v m : ℕ) → v < 2 ^ n → ((k : ℕ) → bit v k ≤ bit m k) → bitAnd v m ≡ v
+same : (n v m : ℕ) → v < 2 ^ n → ((k : ℕ) → bit k v ≤ bit k m) → bitAnd v m ≡ v
 same zero v m h b = let z : v ≡ 0 = omega arith in rw z (and-zero-l m)
 same (suc n) v m h b =
     let e : 2 ^ suc n ≡ 2 * 2 ^ n = pow-succ' 2 n in
@@ -48,5 +46,5 @@ same (suc n) v m h b =
     let ih : bitAnd (v / 2) (m / 2) ≡ v / 2 = same n (v / 2) (m / 2) s (λ k. omega (arith, half v k, half m k, b (suc k))) in
     omega (arith, and-step v m, b 0)
 
-pub bits-within : (n v m : ℕ) → v < 2 ^ n → ((k : ℕ) → bit v k ≤ bit m k) → within v m ≡ true
+pub bits-within : (n v m : ℕ) → v < 2 ^ n → ((k : ℕ) → bit k v ≤ bit k m) → within v m ≡ true
 bits-within n v m h b = eq-eqb _ _ (same n v m h b)

@@ -39,7 +39,7 @@ returns c =
     let a = start-r (c .before .before) .args in
     let t = c .before .before .before .before .before .before .translate .ensures in (
       listed-short (now (a .file)) (length (now (a .work))) (now (a .out)) _ (is-r (c .before .before)) (c .if1 .taken),
-      (refl, t .1 ∙ ap (λ (x : Translated). leftBy x (now (a .file)) (now (a .work))) (t .0)),
+      (refl, t .1 .0 ∙ ap (λ (x : Translated). leftBy x (now (a .file)) (now (a .work))) (t .0)),
     )
 
 -- commands, and too little room for their text
@@ -48,7 +48,7 @@ returns-2 c =
     let a = start-k (c .before .before) .args in
     let t = c .before .before .before .before .before .before .translate .ensures in (
       listed-short (now (a .file)) (length (now (a .work))) (now (a .out)) _ (is-k (c .before .before)) (c .if2 .taken),
-      (refl, t .1 ∙ ap (λ (x : Translated). leftBy x (now (a .file)) (now (a .work))) (t .0)),
+      (refl, t .1 .0 ∙ ap (λ (x : Translated). leftBy x (now (a .file)) (now (a .work))) (t .0)),
     )
 
 -- the line of a refusal
@@ -58,7 +58,7 @@ returns-3 c =
     let t = c .before .before .before .before .before .before .before .before .before .before .before .translate .ensures in
     let l = listed-text (now (a .file)) (length (now (a .work))) (now (a .out)) _ (is-r (c .before .before .before .before .before .before .before)) (c .before .before .before .before .before .if1 .left)
     (ap refusal (c .before .before .before .number-of .ensures)) (c .before .before .add-refusal .ensures) in
-    (l .0, (l .1, t .1 ∙ ap (λ (x : Translated). leftBy x (now (a .file)) (now (a .work))) (t .0)))
+    (l .0, (l .1, t .1 .0 ∙ ap (λ (x : Translated). leftBy x (now (a .file)) (now (a .work))) (t .0)))
 
 -- the header and the lines
 returns-4 : tie.Need-returns-4
@@ -69,11 +69,11 @@ returns-4 c =
     let t = c .before .before .before .before .before .before .before .before .before .before .before .before .translate .ensures in
     let left : List ℕ = c .before .before .before .before .before .before .before .before .before .before .before .before .translate .last .1 .0 in
     let lines : linesTo left k ≡ linesOf (commandsTo (now (a .file)) (stepCount (now (a .file)))) =
-    lines-left (now (a .file)) (now (a .work)) left k (is-k told) (t .1 ∙ ap (λ (x : Translated). leftBy x (now (a .file)) (now (a .work))) (told .k .given .1)) in
+    lines-left (now (a .file)) (now (a .work)) left k (is-k told) (t .1 .0 ∙ ap (λ (x : Translated). leftBy x (now (a .file)) (now (a .work))) (told .k .given .1)) in
     let l = listed-text (now (a .file)) (length (now (a .work))) (now (a .out)) _ (is-k told) (c .before .before .before .before .before .before .if2 .left)
     (ap (λ (n : ℕ). header n k ++ linesTo left k) (c .before .before .before .before .step-count .ensures) ∙ ap (_++_ (header (stepCount (now (a .file))) k)) lines)
     (c .before .before .add-text .ensures) in
-    (l .0, (l .1, t .1 ∙ ap (λ (x : Translated). leftBy x (now (a .file)) (now (a .work))) (t .0)))
+    (l .0, (l .1, t .1 .0 ∙ ap (λ (x : Translated). leftBy x (now (a .file)) (now (a .work))) (t .0)))
 
 pub list-spec : {M : Type 1} → statement M
 list-spec =

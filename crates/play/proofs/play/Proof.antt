@@ -18,15 +18,15 @@ play-spec =
     (λ c. search needs)
     (λ c. search needs)
     (λ c. omega (arith, commands-fit (c .before .before .before .before .before .before .before .before .before .args .file .now) (length (c .before .before .before .before .before .before .before .before .before .args .buffer .now)) _ (sym (c .before .before .before .before .before .translate .ensures .0) ∙ c .before .k .given .1)))
-    (λ c. front-fits (c .before .before .before .before .before .before .before .before .before .args .file .now) (c .before .before .before .before .before .before .before .before .before .args .buffer .now) _ (sym (c .before .before .before .before .before .translate .ensures .0) ∙ c .before .k .given .1) (c .before .before .before .before .before .translate .ensures .1 ∙ ap (λ (t : Translated). leftBy t (c .before .before .before .before .before .before .before .before .before .args .file .now) (c .before .before .before .before .before .before .before .before .before .args .buffer .now)) (c .before .k .given .1)))
-    (λ c. sym (length-take-le _ _ (front-fits (c .before .before .before .before .before .before .before .before .before .before .args .file .now) (c .before .before .before .before .before .before .before .before .before .before .args .buffer .now) _ (sym (c .before .before .before .before .before .before .translate .ensures .0) ∙ c .before .before .k .given .1) (c .before .before .before .before .before .before .translate .ensures .1 ∙ ap (λ (t : Translated). leftBy t (c .before .before .before .before .before .before .before .before .before .before .args .file .now) (c .before .before .before .before .before .before .before .before .before .before .args .buffer .now)) (c .before .before .k .given .1)))))
+    (λ c. front-fits (c .before .before .before .before .before .before .before .before .before .args .file .now) (c .before .before .before .before .before .before .before .before .before .args .buffer .now) _ (sym (c .before .before .before .before .before .translate .ensures .0) ∙ c .before .k .given .1) (c .before .before .before .before .before .translate .ensures .1 .0 ∙ ap (λ (t : Translated). leftBy t (c .before .before .before .before .before .before .before .before .before .args .file .now) (c .before .before .before .before .before .before .before .before .before .args .buffer .now)) (c .before .k .given .1)))
+    (λ c. sym (length-take-le _ _ (front-fits (c .before .before .before .before .before .before .before .before .before .before .args .file .now) (c .before .before .before .before .before .before .before .before .before .before .args .buffer .now) _ (sym (c .before .before .before .before .before .before .translate .ensures .0) ∙ c .before .before .k .given .1) (c .before .before .before .before .before .before .translate .ensures .1 .0 ∙ ap (λ (t : Translated). leftBy t (c .before .before .before .before .before .before .before .before .before .before .args .file .now) (c .before .before .before .before .before .before .before .before .before .before .args .buffer .now)) (c .before .before .k .given .1)))))
     (λ c κs. search needs)
     (λ c. search needs)
     (λ c. let is = sym (c .before .before .before .before .before .translate .ensures .0) ∙ c .before .why .given .1 in
     let e = played-refused (c .before .before .before .before .before .before .before .before .before .args .chip) (c .before .before .before .before .before .before .before .before .before .args .file .now) (length (c .before .before .before .before .before .before .before .before .before .args .buffer .now)) _ is in
-    (e, (rw e (by-name (c .before .before .before .before .before .before .before .before .before .args .chip) (c .before .before .before .before .before .before .before .before .before .args .file .now) (length (c .before .before .before .before .before .before .before .before .before .args .buffer .now))), c .before .before .before .before .before .translate .ensures .1 ∙ ap (λ (t : Translated). leftBy t (c .before .before .before .before .before .before .before .before .before .args .file .now) (c .before .before .before .before .before .before .before .before .before .args .buffer .now)) (c .before .before .before .before .before .translate .ensures .0))))
+    (e, (rw e (by-name (c .before .before .before .before .before .before .before .before .before .args .chip) (c .before .before .before .before .before .before .before .before .before .args .file .now) (length (c .before .before .before .before .before .before .before .before .before .args .buffer .now))), c .before .before .before .before .before .translate .ensures .1 .0 ∙ ap (λ (t : Translated). leftBy t (c .before .before .before .before .before .before .before .before .before .args .file .now) (c .before .before .before .before .before .before .before .before .before .args .buffer .now)) (c .before .before .before .before .before .translate .ensures .0))))
     (λ c. search needs)
     (λ c. let is = sym (c .before .before .before .before .before .before .before .before .translate .ensures .0) ∙ c .before .before .before .before .k .given .1 in
-    let left = c .before .before .before .before .before .before .before .before .translate .ensures .1 ∙ ap (λ (t : Translated). leftBy t (c .before .before .before .before .before .before .before .before .before .before .before .before .args .file .now) (c .before .before .before .before .before .before .before .before .before .before .before .before .args .buffer .now)) (c .before .before .before .before .k .given .1) in
-    let e = played-commands (c .before .before .before .before .before .before .before .before .before .before .before .before .args .chip) (c .before .before .before .before .before .before .before .before .before .before .before .before .args .file .now) (length (c .before .before .before .before .before .before .before .before .before .before .before .before .args .buffer .now)) _ is (front-commands (c .before .before .before .before .before .before .before .before .before .before .before .before .args .file .now) (c .before .before .before .before .before .before .before .before .before .before .before .before .args .buffer .now) _ is left) (c .before .run .ensures) in
-    (e, (rw e (by-name (c .before .before .before .before .before .before .before .before .before .before .before .before .args .chip) (c .before .before .before .before .before .before .before .before .before .before .before .before .args .file .now) (length (c .before .before .before .before .before .before .before .before .before .before .before .before .args .buffer .now))), c .before .before .before .before .before .before .before .before .translate .ensures .1 ∙ ap (λ (t : Translated). leftBy t (c .before .before .before .before .before .before .before .before .before .before .before .before .args .file .now) (c .before .before .before .before .before .before .before .before .before .before .before .before .args .buffer .now)) (c .before .before .before .before .before .before .before .before .translate .ensures .0)))))
+    let left = c .before .before .before .before .before .before .before .before .translate .ensures .1 .0 ∙ ap (λ (t : Translated). leftBy t (c .before .before .before .before .before .before .before .before .before .before .before .before .args .file .now) (c .before .before .before .before .before .before .before .before .before .before .before .before .args .buffer .now)) (c .before .before .before .before .k .given .1) in
+    let e = played-commands (c .before .before .before .before .before .before .before .before .before .before .before .before .args .chip) (c .before .before .before .before .before .before .before .before .before .before .before .before .args .file .now) (length (c .before .before .before .before .before .before .before .before .before .before .before .before .args .buffer .now)) _ is (front-commands (c .before .before .before .before .before .before .before .before .before .before .before .before .args .file .now) (c .before .before .before .before .before .before .before .before .before .before .before .before .args .buffer .now) _ is left) (c .before .run .ensures .0) in
+    (e, (rw e (by-name (c .before .before .before .before .before .before .before .before .before .before .before .before .args .chip) (c .before .before .before .before .before .before .before .before .before .before .before .before .args .file .now) (length (c .before .before .before .before .before .before .before .before .before .before .before .before .args .buffer .now))), c .before .before .before .before .before .before .before .before .translate .ensures .1 .0 ∙ ap (λ (t : Translated). leftBy t (c .before .before .before .before .before .before .before .before .before .before .before .before .args .file .now) (c .before .before .before .before .before .before .before .before .before .before .before .before .args .buffer .now)) (c .before .before .before .before .before .before .before .before .translate .ensures .0)))))

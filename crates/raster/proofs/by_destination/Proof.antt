@@ -1,7 +1,7 @@
 -- `raster::by_destination` meets its contract: the two masks, split by D at a step of 1. Assumes nothing.
 use mathlib.Core.Path.{_∙_}
 use borrow.Author.Needs.{needs}
-use Rattle.raster.specs.Raster.{bit}
+use Rattle.lists.specs.Bits.{bit}
 use Rattle.raster.specs.Laws.{bit-small}
 use Rattle.raster.proofs.Choices.{split}
 use Rattle.raster.proofs.by_destination.Statement.{statement}

@@ -2,7 +2,7 @@
 use mathlib.Core.Path.{_∙_}
 use Prim.Native.Nat.{_+_, _*_}
 use borrow.Author.Needs.{needs}
-use Rattle.raster.specs.Raster.{bit}
+use Rattle.lists.specs.Bits.{bit}
 use Rattle.raster.specs.Laws.{bit-small}
 use Rattle.raster.proofs.Choices.{split}
 use Rattle.raster.proofs.by_source.Statement.{statement}

@@ -3,7 +3,8 @@ use mathlib.Core.Path.{_∙_, ap}
 use Prim.Native.Nat.{ℕ, _+_, _*_}
 use native.Mathlib.Omega.{arith}
 use borrow.Author.Needs.{needs}
-use Rattle.raster.specs.Raster.{bit, raster}
+use Rattle.lists.specs.Bits.{bit}
+use Rattle.raster.specs.Raster.{raster}
 use Rattle.raster.specs.Laws.{bit-small, number-same}
 use Rattle.raster.proofs.Choices.{split}
 use Rattle.raster.proofs.raster_byte.Statement.{statement}

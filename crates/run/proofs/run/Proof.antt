@@ -3,6 +3,7 @@ use Prim.Native.Nat.{_+_, _-_, _%_, _≤_, _<_}
 use mathlib.Core.Path.{_≡_, refl, _∙_}
 use lib.ListN.{length, drop}
 use Rattle.run.specs.Run.{runFrom, reads, ran}
+use Rattle.run.proofs.RunLaws.{run-answered}
 use Rattle.run.proofs.Turns.{finished, limited, turned, halted, whole, uneven}
 use borrow.Author.Needs.{needs}
 use native.Mathlib.Omega.{arith}
@@ -23,11 +24,13 @@ run-spec =
     (tie.spec
     Inv-loop
     μ-loop
-    (λ c. uneven _ _ _ (c .if1 .taken))
+    (λ c. run-answered _ _ _ (uneven _ _ _ (c .if1 .taken)))
     (λ c. (whole (c .before .before .args .chip) (c .before .before .args .commands .now) (c .before .before .args .limit) (c .if1 .left), c .if1 .left, refl, omega arith, omega arith, refl))
-    (λ c. let i = c .before .before .loop .inv in
-    let room : c .before .before .loop .at + 3 < length (c .before .before .before .before .before .args .commands .now) = omega arith in
-    limited (c .before .before .loop .chip) (c .before .before .loop .acc) (c .before .before .loop .place) (c .before .before .before .before .before .args .limit) (c .before .before .before .before .before .args .commands .now) (c .before .before .loop .at) room (c .if2 .taken) ∙ i .0)
+    (λ c. let l = c .before .before .loop in
+    let a = c .before .before .before .before .before .args in
+    let i = l .inv in
+    let room : l .at + 3 < length (a .commands .now) = omega arith in
+    run-answered _ _ _ (limited (l .chip) (l .acc) (l .place) (a .limit) (a .commands .now) (l .at) room (c .if2 .taken) ∙ i .0))
     (λ c. omega arith)
     (λ c. omega arith)
     (λ c. omega arith)
@@ -37,17 +40,23 @@ run-spec =
     (λ c. omega arith)
     (λ c κs. search needs)
     (λ c. search needs)
-    (λ c. let i = c .before .before .before .before .before .before .before .before .before .before .loop .inv in
-    let room : c .before .before .before .before .before .before .before .before .before .before .loop .at + 3 < length (c .before .before .before .before .before .before .before .before .before .before .before .before .before .args .commands .now) = omega arith in
-    let below : c .before .before .before .before .before .before .before .before .before .before .loop .place < c .before .before .before .before .before .before .before .before .before .before .before .before .before .args .limit = omega arith in
-    halted (c .before .before .before .before .before .before .before .before .before .before .loop .chip) (c .before .before .before .before .before .before .before .before .before .before .loop .acc) (c .before .before .before .before .before .before .before .before .before .before .loop .place) (c .before .before .before .before .before .before .before .before .before .before .before .before .before .args .limit) (c .before .before .before .before .before .before .before .before .before .before .before .before .before .args .commands .now) (c .before .before .before .before .before .before .before .before .before .before .loop .at) room below (c .before .before .before .command .result) (c .before .before .before .command .ensures) _ (c .before .v .given .1) ∙ i .0)
+    (λ c. let l = c .before .before .before .before .before .before .before .before .before .before .loop in
+    let a = c .before .before .before .before .before .before .before .before .before .before .before .before .before .args in
+    let i = l .inv in
+    let room : l .at + 3 < length (a .commands .now) = omega arith in
+    let below : l .place < a .limit = omega arith in
+    run-answered _ _ _ (halted (l .chip) (l .acc) (l .place) (a .limit) (a .commands .now) (l .at) room below (c .before .before .before .command .result) (c .before .before .before .command .ensures) _ (c .before .v .given .1) ∙ i .0))
     (λ c. search needs)
     (λ c. omega arith)
     (λ c. omega arith)
     (λ c. omega arith)
-    (λ c. let i = c .before .before .before .before .before .before .before .before .before .before .loop .inv in
-    let room : c .before .before .before .before .before .before .before .before .before .before .loop .at + 3 < length (c .before .before .before .before .before .before .before .before .before .before .before .before .before .args .commands .now) = omega arith in
-    let below : c .before .before .before .before .before .before .before .before .before .before .loop .place < c .before .before .before .before .before .before .before .before .before .before .before .before .before .args .limit = omega arith in
-    (turned (c .before .before .before .before .before .before .before .before .before .before .loop .chip) (c .before .before .before .before .before .before .before .before .before .before .loop .acc) (c .before .before .before .before .before .before .before .before .before .before .loop .place) (c .before .before .before .before .before .before .before .before .before .before .before .before .before .args .limit) (c .before .before .before .before .before .before .before .before .before .before .before .before .before .args .commands .now) (c .before .before .before .before .before .before .before .before .before .before .loop .at) room below (c .before .before .before .command .result) (c .before .before .before .command .ensures) (c .before .enum-told .given .1) ∙ i .0, i .1, omega arith, omega arith, omega arith, i .5))
-    (λ c. let i = c .before .loop .inv in
-    finished (c .before .loop .chip) (c .before .loop .acc) (c .before .loop .place) (c .before .before .before .before .args .limit) (c .before .before .before .before .args .commands .now) (c .before .loop .at) (omega arith) ∙ i .0))
+    (λ c. let l = c .before .before .before .before .before .before .before .before .before .before .loop in
+    let a = c .before .before .before .before .before .before .before .before .before .before .before .before .before .args in
+    let i = l .inv in
+    let room : l .at + 3 < length (a .commands .now) = omega arith in
+    let below : l .place < a .limit = omega arith in
+    (turned (l .chip) (l .acc) (l .place) (a .limit) (a .commands .now) (l .at) room below (c .before .before .before .command .result) (c .before .before .before .command .ensures) (c .before .enum-told .given .1) ∙ i .0, i .1, omega arith, omega arith, omega arith, i .5))
+    (λ c. let l = c .before .loop in
+    let a = c .before .before .before .before .args in
+    let i = l .inv in
+    run-answered _ _ _ (finished (l .chip) (l .acc) (l .place) (a .limit) (a .commands .now) (l .at) (omega arith) ∙ i .0)))

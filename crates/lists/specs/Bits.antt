@@ -1,4 +1,4 @@
--- The bits of a byte, counted from the lowest, 0, as the databook counts them.
+-- The bits of a number, counted from the lowest, 0, as the databook counts those of a byte.
 use Prim.Native.Nat.{ℕ, _/_, _%_, _^_}
 use mathlib.Core.Bool.{Bool}
 use lib.Dec.{eqb}
