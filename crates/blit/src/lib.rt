@@ -4,7 +4,7 @@
 // Whether a transfer is in memory is worked out in `bounds`, its lines are done in `lines`.
 
 ghost use mathlib.Core.Path.{_≡_};
-ghost use Rattle.blit.specs.Memory.{byteRead, writeAnswer, byteWritten};
+ghost use Rattle.blit.specs.Memory.{refusalNumber, answerNumber, byteRead, writeAnswer, byteWritten};
 ghost use Rattle.blit.specs.Transfer.{transferAnswer, transferred};
 
 mod bounds;
@@ -46,6 +46,26 @@ pub struct Transfer {
     pub upward: bool,
     pub pattern: u32,
     pub row: u32,
+}
+
+// Document 01's number of a refusal, and of an answer.
+pub fn refusal_number(why: Refusal) -> u8
+    ensures { λ r. ⌜ r ≡ refusalNumber why ⌝ }
+{
+    match why {
+        Refusal::Length => 3,
+        Refusal::Range => 5,
+        Refusal::Outside => 4,
+    }
+}
+
+pub fn answer_number(a: Answer) -> u8
+    ensures { λ r. ⌜ r ≡ answerNumber a ⌝ }
+{
+    match a {
+        Answer::Done => 0,
+        Answer::Refused(why) => refusal_number(why),
+    }
 }
 
 // The byte at a place of the memory.

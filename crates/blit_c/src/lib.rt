@@ -3,33 +3,14 @@
 
 ghost use mathlib.Core.Path.{_≡_};
 ghost use Prim.Native.Nat.{_+_, _*_};
-ghost use Rattle.blit.specs.Memory.{refusalNumber, answerNumber, readNumber, readValue, byteRead, writeAnswer, byteWritten};
+ghost use Rattle.blit.specs.Memory.{answerNumber, readNumber, readValue, byteRead, writeAnswer, byteWritten};
 ghost use Rattle.blit.specs.Transfer.{transferAnswer, transferred};
 ghost use Rattle.blit_c.specs.Given.{given};
-use blit::Answer;
 use blit::Area;
 use blit::Read;
-use blit::Refusal;
 use blit::Transfer;
-
-fn refusal_number(why: Refusal) -> u8
-    ensures { λ r. ⌜ r ≡ refusalNumber why ⌝ }
-{
-    match why {
-        Refusal::Length => 3,
-        Refusal::Range => 5,
-        Refusal::Outside => 4,
-    }
-}
-
-fn answer_number(a: Answer) -> u8
-    ensures { λ r. ⌜ r ≡ answerNumber a ⌝ }
-{
-    match a {
-        Answer::Done => 0,
-        Answer::Refused(why) => refusal_number(why),
-    }
-}
+use blit::answer_number;
+use blit::refusal_number;
 
 #[no_mangle]
 pub extern "C" fn blit_transfer(

@@ -1,10 +1,9 @@
 // Document 01's set-ups on the compiled code: a line a case, `3 ok`, or the bytes that came out instead. The
 // cases marked * are also rows of the table in specs/Setups, which is proved. A case is sixteen bytes:
 // what came out, and zeros after it.
-use blit::Answer as Transferred;
 use blit::Area;
-use blit::Refusal;
 use blit::Transfer;
+use blit::answer_number;
 use blit::block_transfer;
 use chip::Chip;
 use chip::access::number;
@@ -148,18 +147,6 @@ fn case_8() -> [u8; 16] {
     out
 }
 
-// Document 01's number of a transfer's answer.
-fn transfer_number(a: Transferred) -> u8 {
-    match a {
-        Transferred::Done => 0,
-        Transferred::Refused(why) => match why {
-            Refusal::Length => 3,
-            Refusal::Outside => 4,
-            Refusal::Range => 5,
-        },
-    }
-}
-
 // One line in a memory of 4,096 bytes that begins 1, 2, 3, 4, 5: the number, and the first five bytes.
 fn one_line(code: u8, leftward: bool, width: u32, source: u32, destination: u32) -> [u8; 16] {
     let mut mem = [0u8; 4096];
@@ -189,7 +176,7 @@ fn one_line(code: u8, leftward: bool, width: u32, source: u32, destination: u32)
     };
     let answer = block_transfer(&mut mem, t);
     let mut out = [0u8; 16];
-    out[0] = transfer_number(answer);
+    out[0] = answer_number(answer);
     out[1] = mem[0];
     out[2] = mem[1];
     out[3] = mem[2];
