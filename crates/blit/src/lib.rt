@@ -62,10 +62,10 @@ pub fn refusal_number(why: Refusal) -> u8
 pub fn answer_number(a: Answer) -> u8
     ensures { λ r. ⌜ r ≡ answerNumber a ⌝ }
 {
-    match a {
-        Answer::Done => 0,
-        Answer::Refused(why) => refusal_number(why),
+    if let Answer::Refused(why) = a {
+        return refusal_number(why);
     }
+    0
 }
 
 // The byte at a place of the memory.
