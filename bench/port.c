@@ -1,0 +1,267 @@
+// Nanoseconds a port access, through the library and on a plain C model, from one run.
+//
+// The C model is a struct with a field to each part of the state and one switch on the port, with the writable bits in a table,
+// as emulators write it; it is compiled with -O3 and called as a function of its own, as the library is. Both work through the
+// same list of accesses: registers of every group written and read, the palette loaded and read back, and now and then a port
+// that is not listed. Before anything is timed, the two are compared access by access. A time is the best of several turns, the
+// two taking turns, so that the ratio is of one moment of one machine.
+
+#include <stdbool.h>
+#include <stdint.h>
+#include <stdio.h>
+#include <stdlib.h>
+#include <string.h>
+#include <time.h>
+
+#include "chips69000.h"
+
+enum { CR, SR, GR, XR, FR, MR, GROUPS };
+
+static const struct {
+    int group, index, writable, reset;
+} rows[] = {
+#include "rows.h"
+};
+
+static uint8_t writable[GROUPS][256];
+
+// ---- the plain model
+
+struct chip {
+    uint8_t cr[256], sr[256], gr[256], xr[256], fr[256], mr[256];
+    uint8_t cr_index, sr_index, gr_index, xr_index, fr_index, mr_index;
+    uint8_t msr, palmask;
+    struct {
+        uint8_t part[3];
+    } palette[256];
+    uint8_t index, position, held[2];
+    bool reading;
+};
+
+static void reset(struct chip *c, uint8_t first, uint8_t second) {
+    memset(c, 0, sizeof *c);
+    uint8_t *tables[GROUPS] = {c->cr, c->sr, c->gr, c->xr, c->fr, c->mr};
+    for (size_t k = 0; k < sizeof rows / sizeof *rows; k++) {
+        writable[rows[k].group][rows[k].index] = (uint8_t)rows[k].writable;
+        tables[rows[k].group][rows[k].index] = (uint8_t)rows[k].reset;
+    }
+    c->xr[0x08] = first & 0x02;
+    c->xr[0x70] = first | 0x01;
+    c->xr[0x71] = second;
+}
+
+static inline void store(uint8_t *byte, uint8_t value, uint8_t mask) {
+    *byte = (uint8_t)((*byte & ~mask) | (value & mask));
+}
+
+static inline void move_on(struct chip *c) {
+    if (c->position == 2) {
+        c->position = 0;
+        c->index++;
+    } else {
+        c->position++;
+    }
+}
+
+__attribute__((noinline)) static uint8_t port_write(struct chip *c, uint16_t port, uint8_t v) {
+    if (!(c->xr[0x70] & 2)) return 2;
+    switch (port) {
+    case 0x3B4:
+    case 0x3D4:
+        if ((port == 0x3D4) == (c->msr & 1)) c->cr_index = v;
+        return 0;
+    case 0x3B5:
+    case 0x3D5:
+        if ((port == 0x3D5) == (c->msr & 1)) {
+            uint8_t i = c->cr_index, mask = writable[CR][i];
+            if (i < 8 && (c->cr[0x11] & 0x80)) mask &= i == 7 ? 0x10 : 0x00;
+            store(&c->cr[i], v, mask);
+        }
+        return 0;
+    case 0x3C2: store(&c->msr, v, 0xEF); return 0;
+    case 0x3C4: c->sr_index = v; return 0;
+    case 0x3C5: store(&c->sr[c->sr_index], v, writable[SR][c->sr_index]); return 0;
+    case 0x3C6: c->palmask = v; return 0;
+    case 0x3C7:
+    case 0x3C8:
+        c->index = v;
+        c->position = 0;
+        c->reading = port == 0x3C7;
+        return 0;
+    case 0x3C9:
+        if (c->position == 2) {
+            uint8_t mask = c->xr[0x80] & 0x80 ? 0xFF : 0x3F;
+            c->palette[c->index].part[0] = c->held[0] & mask;
+            c->palette[c->index].part[1] = c->held[1] & mask;
+            c->palette[c->index].part[2] = v & mask;
+        } else {
+            c->held[c->position] = v;
+        }
+        move_on(c);
+        return 0;
+    case 0x3CE: c->gr_index = v; return 0;
+    case 0x3CF: store(&c->gr[c->gr_index], v, writable[GR][c->gr_index]); return 0;
+    case 0x3D0: c->fr_index = v; return 0;
+    case 0x3D1: store(&c->fr[c->fr_index], v, writable[FR][c->fr_index]); return 0;
+    case 0x3D2: c->mr_index = v; return 0;
+    case 0x3D3: store(&c->mr[c->mr_index], v, writable[MR][c->mr_index]); return 0;
+    case 0x3D6: c->xr_index = v; return 0;
+    case 0x3D7: store(&c->xr[c->xr_index], v, writable[XR][c->xr_index]); return 0;
+    default: return 1;
+    }
+}
+
+// 256 times the number, plus the byte
+__attribute__((noinline)) static uint16_t port_read(struct chip *c, uint16_t port) {
+    if (!(c->xr[0x70] & 2)) return 0x2FF;
+    switch (port) {
+    case 0x3B4:
+    case 0x3D4: return (port == 0x3D4) == (c->msr & 1) ? c->cr_index : 0xFF;
+    case 0x3B5:
+    case 0x3D5: return (port == 0x3D5) == (c->msr & 1) ? c->cr[c->cr_index] : 0xFF;
+    case 0x3C4: return c->sr_index;
+    case 0x3C5: return c->sr[c->sr_index];
+    case 0x3C6: return c->palmask;
+    case 0x3C7: return c->reading ? 3 : 0;
+    case 0x3C8: return c->index;
+    case 0x3C9: {
+        uint8_t v = c->palette[c->index].part[c->position] & (c->xr[0x80] & 0x80 ? 0xFF : 0x3F);
+        move_on(c);
+        return v;
+    }
+    case 0x3CC: return c->msr;
+    case 0x3CE: return c->gr_index;
+    case 0x3CF: return c->gr[c->gr_index];
+    case 0x3D0: return c->fr_index;
+    case 0x3D1: return c->fr[c->fr_index];
+    case 0x3D2: return c->mr_index;
+    case 0x3D3: return c->mr[c->mr_index];
+    case 0x3D6: return c->xr_index;
+    case 0x3D7: return c->xr[c->xr_index];
+    default: return 0x1FF;
+    }
+}
+
+// ---- the accesses
+
+struct access {
+    uint16_t port;
+    uint8_t value;
+    bool write;
+};
+
+enum { COUNT = 1 << 14 };
+static struct access list[COUNT + 8];
+
+static uint64_t seed = 69000;
+
+static uint32_t drawn(uint32_t below) {
+    seed ^= seed << 13;
+    seed ^= seed >> 7;
+    seed ^= seed << 17;
+    return (uint32_t)(seed >> 32) % below;
+}
+
+static int put(int n, uint16_t port, bool write) {
+    list[n] = (struct access){port, (uint8_t)drawn(256), write};
+    return n + 1;
+}
+
+static void fill(void) {
+    static const uint16_t index[] = {0x3B4, 0x3D4, 0x3C4, 0x3CE, 0x3D6, 0x3D0, 0x3D2};
+    for (int n = 0; n < COUNT;) {
+        uint32_t kind = drawn(16);
+        if (kind < 11) { // a register: its index, then its data, written or read
+            uint16_t port = index[drawn(7)];
+            n = put(n, port, true);
+            n = put(n, port + 1, kind < 6);
+        } else if (kind < 13) { // a colour
+            n = put(n, 0x3C8, true);
+            for (int k = 0; k < 3; k++) n = put(n, 0x3C9, true);
+        } else if (kind < 14) {
+            n = put(n, 0x3C7, true);
+            for (int k = 0; k < 3; k++) n = put(n, 0x3C9, false);
+        } else if (kind < 15) { // MSR, PALMASK, and what 3C7h and 3C8h read
+            static const struct access one[] = {{0x3C2, 0, true}, {0x3CC, 0, false}, {0x3C6, 0, true}, {0x3C7, 0, false}, {0x3C8, 0, false}};
+            uint32_t k = drawn(5);
+            n = put(n, one[k].port, one[k].write);
+        } else {
+            n = put(n, (uint16_t)(0x3B0 + drawn(48)), drawn(2));
+        }
+    }
+}
+
+// ---- the two ways
+
+static struct chip plain;
+static uint8_t state[CHIPS69000_STATE_SIZE];
+
+static uint32_t by_library(void) {
+    uint32_t sum = 0;
+    for (int k = 0; k < COUNT; k++)
+        sum += list[k].write ? chips69000_port_write(state, sizeof state, list[k].port, list[k].value)
+                             : chips69000_port_read(state, sizeof state, list[k].port);
+    return sum;
+}
+
+static uint32_t by_model(void) {
+    uint32_t sum = 0;
+    for (int k = 0; k < COUNT; k++)
+        sum += list[k].write ? port_write(&plain, list[k].port, list[k].value) : port_read(&plain, list[k].port);
+    return sum;
+}
+
+static double now(void) {
+    struct timespec t;
+    clock_gettime(CLOCK_MONOTONIC, &t);
+    return (double)t.tv_sec * 1e9 + (double)t.tv_nsec;
+}
+
+static uint32_t kept;
+
+static double timed(uint32_t (*way)(void), int turns) {
+    double began = now();
+    for (int k = 0; k < turns; k++) kept += way();
+    return (now() - began) / turns / COUNT;
+}
+
+int main(void) {
+    fill();
+    reset(&plain, 0xFF, 0x00);
+    chips69000_reset(state, sizeof state, 0xFF, 0x00);
+    for (int turn = 0; turn < 64; turn++)
+        for (int k = 0; k < COUNT; k++) {
+            struct access a = list[k];
+            uint32_t x = a.write ? chips69000_port_write(state, sizeof state, a.port, a.value) : chips69000_port_read(state, sizeof state, a.port);
+            uint32_t y = a.write ? port_write(&plain, a.port, a.value) : port_read(&plain, a.port);
+            if (x != y) {
+                printf("%s %03X differs: %u and %u\n", a.write ? "OUT" : "IN", a.port, x, y);
+                return 1;
+            }
+        }
+    double library = 1e9, model = 1e9;
+    for (int turn = 0; turn < 40; turn++) {
+        double x = timed(by_library, 20), y = timed(by_model, 20);
+        if (x < library) library = x;
+        if (y < model) model = y;
+    }
+    // the same writes as commands, run on the state in one call
+    static uint8_t commands[4 * COUNT];
+    size_t size = 0, count = 0, place = 0;
+    for (int k = 0; k < COUNT; k++)
+        if (list[k].write && (uint8_t)port_write(&plain, list[k].port, list[k].value) == 0) {
+            uint8_t one[4] = {1, (uint8_t)list[k].port, (uint8_t)(list[k].port >> 8), list[k].value};
+            memcpy(commands + size, one, 4);
+            size += 4;
+        }
+    double run = 1e9;
+    for (int turn = 0; turn < 200; turn++) {
+        double began = now();
+        if (chips69000_run(state, sizeof state, commands, size, SIZE_MAX, &count, &place) || 4 * count != size) return 1;
+        double each = (now() - began) / (double)count;
+        if (each < run) run = each;
+    }
+    printf("run: %.1f million commands a second\n", 1000 / run);
+    printf("library %.2f ns an access, plain C model %.2f ns, ratio %.2f (%u)\n", library, model, library / model, kept);
+    return 0;
+}

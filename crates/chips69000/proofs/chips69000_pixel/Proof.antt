@@ -1,0 +1,15 @@
+-- The answer taken apart, in numbers.
+use borrow.Author.Needs.{needs}
+use Rattle.chips69000.proofs.chips69000_pixel.Statement.{statement}
+use Rattle.chips69000.proofs.chips69000_pixel.Tie as tie
+
+pub chips69000-pixel-spec : {M : Type 1} → statement M
+chips69000-pixel-spec =
+    tie.close
+    (tie.spec
+    (λ c κs. search needs)
+    (λ c. search needs)
+    (λ c κs. search needs)
+    (λ c. search needs)
+    (λ c. rw (← c .before .before .before .before .colour-of .ensures, c .before .before .c .given .1) (c .packed .ensures))
+    (λ c. rw (← c .before .before .colour-of .ensures, c .enum-told .given .1)))

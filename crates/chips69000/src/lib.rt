@@ -1,0 +1,99 @@
+// The controller as a C program links it: include/chips69000.h declares these functions. The state is bytes
+// that the program lends (crate `state`), memory, files and command bytes likewise, and each function returns
+// document 01's number, or 255 for bytes that are no state (specs/Numbers). Nothing is worked out here: every
+// function calls a proved one and says its answer in numbers. Those on the state come first, then video
+// memory, then scripts and the run.
+ghost use mathlib.Core.Path.{_≡_};
+ghost use Prim.Native.Nat.{_+_, _*_};
+ghost use Rattle.chip.specs.Access.{portWritten, portRead};
+ghost use Rattle.chip.specs.Reset.{reset as resetOf};
+ghost use Rattle.state.specs.Layout.{view, spare};
+ghost use Rattle.state.specs.Accesses.{Left, writeAnswer, readAnswer, pixelAnswer};
+ghost use Rattle.restart.specs.Fresh.{restartAnswer};
+ghost use Rattle.chips69000.specs.Numbers.{restartNumber, writeNumber, readWord, colourWord};
+use chip::access::number;
+use restart::Restarted;
+use restart::restart;
+use state::access::Seen;
+use state::access::Written;
+use state::access::port_read;
+use state::access::port_write;
+use state::pixel::Colour;
+use state::pixel::colour_of;
+
+pub mod memory;
+pub mod scripts;
+
+// A byte as a longer number.
+fn wide(x: u8) -> u16
+    ensures { λ r. ⌜ r ≡ x ⌝ }
+{
+    x as u16
+}
+
+fn wider(x: u8) -> u32
+    ensures { λ r. ⌜ r ≡ x ⌝ }
+{
+    x as u32
+}
+
+// A number and the byte that was read.
+fn word(n: u8, v: u8) -> u16
+    ensures { λ r. ⌜ r ≡ 256 * n + v ⌝ }
+{
+    256 * wide(n) + wide(v)
+}
+
+// A colour as one number.
+fn packed(red: u8, green: u8, blue: u8) -> u32
+    ensures { λ r. ⌜ r ≡ 65536 * red + 256 * green + blue ⌝ }
+{
+    65536 * wider(red) + 256 * wider(green) + wider(blue)
+}
+
+// A reset that lends two pin bytes.
+#[no_mangle]
+pub extern "C" fn chips69000_reset(state: &mut [u8], first: u8, second: u8) -> u8
+    ensures { λ r. ⌜ r ≡ restartNumber (restartAnswer (now (state .entry))) ⌝ }
+    ensures { λ _. ⌜ Left (now (state .entry)) (resetOf first second) 0 (now (state .exit)) ⌝ }
+{
+    match restart(state, first, second) {
+        Restarted::Done => 0,
+        Restarted::Length => 255,
+    }
+}
+
+// A port write.
+#[no_mangle]
+pub extern "C" fn chips69000_port_write(state: &mut [u8], port: u16, value: u8) -> u8
+    ensures { λ r. ⌜ r ≡ writeNumber (writeAnswer (now (state .entry)) port value) ⌝ }
+    ensures { λ _. ⌜ Left (now (state .entry)) (portWritten (view (now (state .entry))) port value .chip) (spare (now (state .entry))) (now (state .exit)) ⌝ }
+{
+    match port_write(state, port, value) {
+        Written::Answered(a) => number(a),
+        Written::Length => 255,
+    }
+}
+
+// A port read: 256 times the number, plus the byte.
+#[no_mangle]
+pub extern "C" fn chips69000_port_read(state: &mut [u8], port: u16) -> u16
+    ensures { λ r. ⌜ r ≡ readWord (readAnswer (now (state .entry)) port) ⌝ }
+    ensures { λ _. ⌜ Left (now (state .entry)) (portRead (view (now (state .entry))) port .chip) (spare (now (state .entry))) (now (state .exit)) ⌝ }
+{
+    match port_read(state, port) {
+        Seen::Answered(a, v) => word(number(a), v),
+        Seen::Length => 65535,
+    }
+}
+
+// The colour of a pixel: red, green and blue below the number.
+#[no_mangle]
+pub extern "C" fn chips69000_pixel(state: &[u8], pixel: u8) -> u32
+    ensures { λ r. ⌜ r ≡ colourWord (pixelAnswer (now (state .entry)) pixel) ⌝ }
+{
+    match colour_of(state, pixel) {
+        Colour::Shown(c) => packed(c.red, c.green, c.blue),
+        Colour::Length => 4278190080,
+    }
+}

@@ -1,0 +1,167 @@
+// Scripts and their commands: checking a file, writing one from a list of steps, translating one into
+// commands, and the run on the state. Document 01, "Scripts" and "Commands". The value beside the number is
+// written to a place that the caller lends; it is 0 where document 01 says "nothing more".
+ghost use mathlib.Core.Path.{_≡_};
+ghost use lib.ListN.{length};
+ghost use Rattle.script.specs.File.{checked};
+ghost use Rattle.script.specs.Numbers.{ofChecked};
+ghost use Rattle.writer.specs.Write.{written, ofWritten, leftBy as listLeftBy};
+ghost use Rattle.commands.specs.Translation.{translated, numbersOf, leftBy};
+ghost use Rattle.run.specs.Run.{ran, ofEnding, numberOf as reasonNumber};
+ghost use Rattle.state.specs.Layout.{view, spare};
+ghost use Rattle.state.specs.Accesses.{Left};
+ghost use Rattle.drive.specs.Drive.{driveAnswer};
+ghost use Rattle.chips69000.specs.Numbers.{driveNumber, driveCount, drivePlace};
+use commands::Translated;
+use commands::translate;
+use drive::Driven;
+use drive::drive;
+use run::Ending;
+use run::Reason;
+use script::Checked;
+use script::check_file;
+use writer::Written;
+
+// A number and its value.
+struct Two {
+    number: u8,
+    value: usize,
+}
+
+fn of_checked(c: Checked) -> Two
+    ensures { λ r. ⌜ (r .number ≡ ofChecked c .number) × (r .value ≡ ofChecked c .value) ⌝ }
+{
+    match c {
+        Checked::Accepted(m) => Two {
+            number: 0,
+            value: m,
+        },
+        Checked::Refused(r) => Two {
+            number: r.number(),
+            value: r.value(),
+        },
+    }
+}
+
+fn of_written(w: Written) -> Two
+    ensures { λ r. ⌜ (r .number ≡ ofWritten w .number) × (r .value ≡ ofWritten w .value) ⌝ }
+{
+    match w {
+        Written::Blocks(n) => Two {
+            number: 0,
+            value: n,
+        },
+        Written::Refused(r) => Two {
+            number: r.number(),
+            value: r.value(),
+        },
+    }
+}
+
+fn of_translated(t: Translated) -> Two
+    ensures { λ r. ⌜ (r .number ≡ numbersOf t .number) × (r .value ≡ numbersOf t .value) ⌝ }
+{
+    match t {
+        Translated::Commands(k) => Two {
+            number: 0,
+            value: k,
+        },
+        Translated::Refused(r) => Two {
+            number: r.number(),
+            value: r.value(),
+        },
+    }
+}
+
+fn of_reason(why: Reason) -> u8
+    ensures { λ r. ⌜ r ≡ reasonNumber why ⌝ }
+{
+    match why {
+        Reason::Form => 10,
+        Reason::Closed => 2,
+        Reason::Unlisted => 1,
+    }
+}
+
+fn of_ending(e: Ending) -> Two
+    ensures { λ r. ⌜ (r .number ≡ ofEnding e .number) × (r .value ≡ ofEnding e .value) ⌝ }
+{
+    match e {
+        Ending::Ended => Two {
+            number: 0,
+            value: 0,
+        },
+        Ending::AtLimit => Two {
+            number: 0,
+            value: 0,
+        },
+        Ending::Stopped(place, why) => Two {
+            number: of_reason(why),
+            value: place,
+        },
+    }
+}
+
+// A script file checked; the value is its number of steps, or the first offending block's or step's number.
+#[no_mangle]
+pub extern "C" fn chips69000_check_script(file: &[u8], value: &mut usize) -> u8
+    ensures { λ r. ⌜ r ≡ ofChecked (checked (now (file .entry))) .number ⌝ }
+    ensures { λ _. ⌜ now (value .exit) ≡ ofChecked (checked (now (file .entry))) .value ⌝ }
+{
+    let t = of_checked(check_file(file));
+    *value = t.value;
+    t.number
+}
+
+// A list of steps written as a script file; the value is the number of blocks, or the offending step's number.
+#[no_mangle]
+pub extern "C" fn chips69000_write_script(list: &[u8], out: &mut [u8], value: &mut usize) -> u8
+    ensures { λ r. ⌜ r ≡ ofWritten (written (now (list .entry)) (length (now (out .entry)))) .number ⌝ }
+    ensures { λ _. ⌜ now (value .exit) ≡ ofWritten (written (now (list .entry)) (length (now (out .entry)))) .value ⌝ }
+    ensures { λ _. ⌜ now (out .exit) ≡ listLeftBy (written (now (list .entry)) (length (now (out .entry)))) (now (list .entry)) (now (out .entry)) ⌝ }
+{
+    let t = of_written(writer::write(list, out));
+    *value = t.value;
+    t.number
+}
+
+// A script file translated into commands; the value is their number, or as for a check.
+#[no_mangle]
+pub extern "C" fn chips69000_translate_script(file: &[u8], out: &mut [u8], value: &mut usize) -> u8
+    ensures { λ r. ⌜ r ≡ numbersOf (translated (now (file .entry)) (length (now (out .entry)))) .number ⌝ }
+    ensures { λ _. ⌜ now (value .exit) ≡ numbersOf (translated (now (file .entry)) (length (now (out .entry)))) .value ⌝ }
+    ensures { λ _. ⌜ now (out .exit) ≡ leftBy (translated (now (file .entry)) (length (now (out .entry)))) (now (file .entry)) (now (out .entry)) ⌝ }
+{
+    let t = of_translated(translate(file, out));
+    *value = t.value;
+    t.number
+}
+
+// Commands run on the state, up to a limit; the count is of those carried out, the place a refusal's.
+#[no_mangle]
+pub extern "C" fn chips69000_run(
+    state: &mut [u8],
+    commands: &[u8],
+    limit: usize,
+    count: &mut usize,
+    place: &mut usize,
+) -> u8
+    ensures { λ r. ⌜ r ≡ driveNumber (driveAnswer (now (state .entry)) (now (commands .entry)) limit) ⌝ }
+    ensures { λ _. ⌜ now (count .exit) ≡ driveCount (driveAnswer (now (state .entry)) (now (commands .entry)) limit) ⌝ }
+    ensures { λ _. ⌜ now (place .exit) ≡ drivePlace (driveAnswer (now (state .entry)) (now (commands .entry)) limit) ⌝ }
+    ensures { λ _. ⌜ Left (now (state .entry)) (ran (view (now (state .entry))) (now (commands .entry)) limit .chip) (spare (now (state .entry))) (now (state .exit)) ⌝ }
+{
+    match drive(state, commands, limit) {
+        Driven::Ran(n, e) => {
+            let t = of_ending(e);
+            *count = n;
+            *place = t.value;
+            t.number
+        }
+        Driven::Length => {
+            *count = 0;
+            *place = 0;
+            255
+        }
+    }
+}

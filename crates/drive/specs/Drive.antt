@@ -1,0 +1,31 @@
+-- The run of commands on lent bytes: what it answers, and what it leaves, by crate `run`'s definition of the run on a chip.
+-- Document 01, "Commands".
+use Prim.Native.Nat.{ℕ}
+use mathlib.Core.Path.{_≡_}
+use mathlib.Core.Bool.{cond}
+use mathlib.Core.List.{List}
+use Rattle.run.specs.Run.{ran}
+use Rattle.run.specs.declared.Did.{Did}
+use Rattle.run.specs.declared.Ran.{Ran}
+use Rattle.state.specs.Layout.{view, spare, Holds}
+use Rattle.state.specs.Accesses.{isState}
+use Rattle.drive.specs.declared.Driven.{Driven}
+use Rattle.drive.specs.declared.Driven.the-variants.{Ran as DrivenRan, Length}
+use Rattle.drive.specs.declared.Turn.{Turn}
+use Rattle.drive.specs.declared.Outcome.{Outcome}
+
+-- the answer: how many commands were carried out and how the run ended, or that the bytes are no state
+abbrev pub driveAnswer : List ℕ → List ℕ → ℕ → Driven
+driveAnswer l bytes limit = cond (isState l) (DrivenRan (ran (view l) bytes limit .count) (ran (view l) bytes limit .ending)) Length
+
+-- one command on a state: what is left of the bytes l is what it did
+pub record DidIn (l : List ℕ) (d : Did) (m : List ℕ) (t : Turn) : Type 0 where
+  pub holds : Holds m (d .chip) (spare l)
+  pub verdict : t .verdict ≡ d .verdict
+  pub acc : t .acc ≡ d .acc
+
+-- a run on a state
+pub record RanIn (l : List ℕ) (r : Ran) (m : List ℕ) (o : Outcome) : Type 0 where
+  pub holds : Holds m (r .chip) (spare l)
+  pub count : o .count ≡ r .count
+  pub ending : o .ending ≡ r .ending

@@ -1,0 +1,110 @@
+// A reset on lent bytes. Document 01, "Registers" and "Palette": what a reset leaves, by its two pin bytes.
+// Whatever the bytes held, they hold afterwards the chip that crate `chip`'s reset gives, and their spare bits
+// (crate `state`, specs/Layout) are 0: a host need not clear the bytes before the first reset.
+ghost use mathlib.Core.Path.{_≡_};
+ghost use Prim.Native.Nat.{_<_};
+ghost use lib.ListN.{length};
+ghost use Rattle.chip.specs.Reset.{resetByte, reset as resetOf};
+ghost use Rattle.state.specs.Layout.{whole, Holds};
+ghost use Rattle.state.specs.Accesses.{Left};
+ghost use Rattle.restart.specs.Fresh.{groupOf, freshByte, restartAnswer};
+use registers::Group;
+use registers::reset_byte;
+use state::access::STATE;
+
+// What a reset answers.
+pub enum Restarted {
+    Done,
+    // The bytes are no state: their length is wrong.
+    Length,
+}
+
+// The group of a table, by its number.
+fn group_of(q: usize) -> Group
+    ensures { λ r. ⌜ r ≡ groupOf q ⌝ }
+{
+    if q == 0 {
+        return Group::Cr;
+    }
+    if q == 1 {
+        return Group::Sr;
+    }
+    if q == 2 {
+        return Group::Gr;
+    }
+    if q == 3 {
+        return Group::Xr;
+    }
+    if q == 4 {
+        return Group::Fr;
+    }
+    Group::Mr
+}
+
+// The byte that a reset leaves in an XR register, where the pins are seen.
+fn pinned(i: u8, first: u8, second: u8) -> u8
+    ensures { λ r. ⌜ r ≡ resetByte first second Group.Xr i ⌝ }
+{
+    match i {
+        0x08 => first & 0x02,
+        0x70 => first | 0x01,
+        0x71 => second,
+        _ => reset_byte(Group::Xr, i),
+    }
+}
+
+// The byte that a reset leaves in a register.
+fn after_reset(g: Group, i: u8, first: u8, second: u8) -> u8
+    ensures { λ r. ⌜ r ≡ resetByte first second g i ⌝ }
+{
+    match g {
+        Group::Xr => pinned(i, first, second),
+        Group::Cr => reset_byte(g, i),
+        Group::Sr => reset_byte(g, i),
+        Group::Gr => reset_byte(g, i),
+        Group::Fr => reset_byte(g, i),
+        Group::Mr => reset_byte(g, i),
+        Group::Msr => reset_byte(g, i),
+        Group::Palmask => reset_byte(g, i),
+    }
+}
+
+// Byte k of a state after a reset.
+fn fresh(k: usize, first: u8, second: u8) -> u8
+    ensures { λ r. ⌜ r ≡ freshByte first second k ⌝ }
+{
+    if k < 1536 {
+        return after_reset(group_of(k / 256), (k % 256) as u8, first, second);
+    }
+    if k == 2304 {
+        return after_reset(Group::Msr, 0x00, first, second);
+    }
+    if k == 2305 {
+        return after_reset(Group::Palmask, 0x00, first, second);
+    }
+    0
+}
+
+// Every byte of a state.
+fn fill(state: &mut [u8], first: u8, second: u8)
+    requires { ⌜ length (now state) ≡ whole ⌝ }
+    ensures { λ _. ⌜ Holds (now (state .exit)) (resetOf first second) 0 ⌝ }
+{
+    let mut k: usize = 0;
+    while k < STATE {
+        state[k] = fresh(k, first, second);
+        k += 1;
+    }
+}
+
+// A reset that lends two pin bytes.
+pub fn restart(state: &mut [u8], first: u8, second: u8) -> Restarted
+    ensures { λ r. ⌜ r ≡ restartAnswer (now (state .entry)) ⌝ }
+    ensures { λ _. ⌜ Left (now (state .entry)) (resetOf first second) 0 (now (state .exit)) ⌝ }
+{
+    if state.len() != STATE {
+        return Restarted::Length;
+    }
+    fill(state, first, second);
+    Restarted::Done
+}

@@ -1,0 +1,118 @@
+-- Bytes that hold a chip, and hold another after a store: each store as one step from `Holds` to `Holds`, so that a function of
+-- several stores is a chain of them. The spare bits stay, since only the byte of PALSTATE has them.
+use Prim.Native.Nat.{ℕ, suc, zero, _+_, _*_, _/_, _%_, _<_}
+use mathlib.Core.Path.{_≡_, refl, ap, _∙_}
+use mathlib.Core.Bool.{Bool, true, false, cond}
+use mathlib.Core.List.{List}
+use lib.Dec.{eqb}
+use lib.ListN.{getD, set, length, length-set}
+use lib.Seq.{getD-set-same, getD-set-other}
+use native.Mathlib.Omega.{arith}
+use Rattle.registers.specs.declared.Group.{Group}
+use Rattle.registers.specs.declared.Group.the-variants.{Cr, Sr, Gr, Xr, Fr, Mr, Msr, Palmask}
+use Rattle.chip.specs.State.{named, withNamed, withLoading}
+use Rattle.chip.specs.Names.{replaced}
+use Rattle.chip.specs.Palette.{rgb, entry, withPalette, component}
+use Rattle.chip.specs.declared.Chip.{Chip}
+use Rattle.state.specs.Layout.{whole, cell, view, spare, placeOf, thirdOf, Holds}
+use Rattle.state.proofs.Stores.{set-reg, set-colour, set-single, single, get-colour}
+
+-- a state holds its own view
+pub as-it-is : {l : List ℕ} → length l ≡ whole → Holds l (view l) (spare l)
+as-it-is n = record { size = n; chip = refl; spare = refl }
+
+pub now-holds : {l : List ℕ} {c d : Chip} {b : ℕ} → Holds l c b → c ≡ d → Holds l d b
+now-holds h e = record { size = h .size; chip = h .chip ∙ e; spare = h .spare }
+
+-- a store below the last byte leaves the spare bits
+spare-stays : (l : List ℕ) (k v : ℕ) → k < 2316 → spare (set l k v) ≡ spare l
+unfolding spare
+spare-stays l k v h = rw (getD-set-other l k 2316 v 0 (λ e. omega arith))
+
+pub then-single : {l : List ℕ} {c : Chip} {b : ℕ} (k v : ℕ) → Holds l c b → k < 12 → Holds (set l (2304 + k) v) (single c k v) b
+then-single {l} k v h w = record {
+  size = length-set l (2304 + k) v ∙ h .size;
+  chip = set-single l k v (h .size) (omega arith) ∙ ap (λ (d : Chip). single d k v) (h .chip);
+  spare = spare-stays l (2304 + k) v (omega arith) ∙ h .spare;
+}
+
+-- the byte of PALSTATE with its lowest bit replaced
+halves : (x : ℕ) (bit : Bool) → (x / 2 * 2 + cond bit 1 0) / 2 ≡ x / 2
+halves x true = omega arith
+halves x false = omega arith
+
+odd : (x : ℕ) (bit : Bool) → eqb ((x / 2 * 2 + cond bit 1 0) % 2) 1 ≡ bit
+odd x true = let e : (x / 2 * 2 + 1) % 2 ≡ 1 = omega arith in rw e
+odd x false = let e : (x / 2 * 2 + 0) % 2 ≡ 0 = omega arith in rw e
+
+pub then-reading : {l : List ℕ} {c : Chip} {b v : ℕ} (bit : Bool) → Holds l c b → v ≡ getD l 2316 0 / 2 * 2 + cond bit 1 0
+    → Holds (set l 2316 v) (withLoading c (record { index = c .loading .index; position = c .loading .position; red = c .loading .red; green = c .loading .green; reading = bit })) b
+unfolding spare
+then-reading {l} {v = v} bit h e = record {
+  size = length-set l 2316 v ∙ h .size;
+  chip = set-single l 12 v (h .size) (omega arith) ∙ ap (λ (d : Chip). single d 12 v) (h .chip) ∙ rw (e, odd (getD l 2316 0) bit);
+  spare = ap (λ (x : ℕ). x / 2) (getD-set-same l 2316 v 0 (rw (h .size) (omega arith))) ∙ rw (e, halves (getD l 2316 0) bit) (h .spare);
+}
+
+pub place-below : (g : Group) (i : ℕ) → i < 256 → placeOf g i < 2316
+unfolding placeOf
+place-below Cr i h = omega arith
+place-below Sr i h = omega arith
+place-below Gr i h = omega arith
+place-below Xr i h = omega arith
+place-below Fr i h = omega arith
+place-below Mr i h = omega arith
+place-below Msr i h = omega arith
+place-below Palmask i h = omega arith
+
+pub then-register : {l : List ℕ} {c : Chip} {b : ℕ} (g : Group) (i v : ℕ) → Holds l c b → i < 256
+    → Holds (set l (placeOf g i) v) (withNamed c (replaced g (named c) i v)) b
+then-register {l} g i v h w = record {
+  size = length-set l (placeOf g i) v ∙ h .size;
+  chip = set-reg g l i v (h .size) w ∙ ap (λ (d : Chip). withNamed d (replaced g (named d) i v)) (h .chip);
+  spare = spare-stays l (placeOf g i) v (place-below g i w) ∙ h .spare;
+}
+
+-- the three bytes of an entry
+pub then-colour : {l : List ℕ} {c : Chip} {b : ℕ} (e red green blue : ℕ) → Holds l c b → e < 256
+    → Holds (set (set (set l (1536 + 3 * e) red) (1536 + 3 * e + 1) green) (1536 + 3 * e + 2) blue)
+    (withNamed c (withPalette (named c) (set (c .palette) e (rgb red green blue)))) b
+then-colour {l} e red green blue h w = record {
+  size = simp length-set (h .size);
+  chip = set-colour l e red green blue (h .size) w ∙ ap (λ (d : Chip). withNamed d (withPalette (named d) (set (d .palette) e (rgb red green blue)))) (h .chip);
+  spare =
+      spare-stays (set (set l (1536 + 3 * e) red) (1536 + 3 * e + 1) green) (1536 + 3 * e + 2) blue (omega arith)
+      ∙ spare-stays (set l (1536 + 3 * e) red) (1536 + 3 * e + 1) green (omega arith)
+      ∙ spare-stays l (1536 + 3 * e) red (omega arith)
+      ∙ h .spare;
+}
+
+-- what is read of the palette
+pub component-at : (l : List ℕ) (e position : ℕ) → e < 256 → component (entry (named (view l)) e) position ≡ getD l (1536 + 3 * e + thirdOf position) 0
+component-at l e k h = rw (get-colour l e h) (go (eqb k 2) (eqb k 1))
+  where
+    go : (a b : Bool)
+        → cond a (getD l (1536 + (3 * e + 2)) 0) (cond b (getD l (1536 + (3 * e + 1)) 0) (getD l (1536 + 3 * e) 0)) ≡ getD l (1536 + 3 * e + cond a 2 (cond b 1 0)) 0
+    go true b = let x : 1536 + 3 * e + 2 ≡ 1536 + (3 * e + 2) = omega arith in rw x
+    go false true = let x : 1536 + 3 * e + 1 ≡ 1536 + (3 * e + 1) = omega arith in rw x
+    go false false = let x : 1536 + 3 * e + 0 ≡ 1536 + 3 * e = omega arith in rw x
+
+pub entry-at : (l : List ℕ) (e : ℕ) → e < 256
+    → entry (named (view l)) e ≡ rgb (getD l (1536 + 3 * e) 0) (getD l (1536 + 3 * e + 1) 0) (getD l (1536 + 3 * e + 2) 0)
+entry-at l e h =
+    let x : 1536 + 3 * e + 1 ≡ 1536 + (3 * e + 1) = omega arith in
+    let y : 1536 + 3 * e + 2 ≡ 1536 + (3 * e + 2) = omega arith in
+    rw (x, y) (get-colour l e h)
+
+pub shown-at : (l : List ℕ) → getD l 2312 0 < 256
+    → component (entry (named (view l)) (view l .loading .index)) (view l .loading .position) ≡ getD l (1536 + 3 * getD l 2312 0 + thirdOf (getD l 2313 0)) 0
+unfolding view cell
+shown-at l h = component-at l (getD l 2312 0) (getD l 2313 0) h
+
+pub index-byte : (l : List ℕ) → view l .loading .index ≡ getD l 2312 0
+unfolding view cell
+index-byte l = refl
+
+pub reading-bit : (l : List ℕ) → view l .loading .reading ≡ eqb (getD l 2316 0 % 2) 1
+unfolding view cell
+reading-bit l = refl

@@ -1,0 +1,4 @@
+pub mod Stores
+pub mod Holding
+pub mod Whole
+pub mod Reached

@@ -1,0 +1,295 @@
+/* An emulator host in small: what a program does that links libchips69000.a.
+ *
+ * It resets a chip, plays a script file on it, asks the chip for the picture's size, draws a caption into video memory with linear
+ * writes and block transfers, and writes what a post would show as a PPM file. The order below is that order; main is last.
+ *
+ *     host SCRIPT [PICTURE]      without PICTURE the picture goes to standard output
+ *
+ * Every number that the library returns is looked at: a refusal ends the program with one line on standard error and status 1.
+ * The file is C11 and also C++.
+ */
+#include <stdarg.h>
+#include <stdio.h>
+#include <stdlib.h>
+#include <string.h>
+
+#include "chips69000.h"
+#include "letters.h"
+
+/* All that the library works on is ours: it keeps nothing between calls and allocates nothing. */
+static uint8_t state[CHIPS69000_STATE_SIZE];
+static uint8_t memory[CHIPS69000_MEMORY_SIZE];
+
+/* ---- Refusals. */
+
+static const char *meaning(unsigned number)
+{
+    switch (number) {
+    case CHIPS69000_UNLISTED: return "no such port in this direction";
+    case CHIPS69000_CLOSED: return "the ports are closed, pin CFG1 is 0";
+    case CHIPS69000_MEMORY_LENGTH: return "memory of a length that is not allowed";
+    case CHIPS69000_OUTSIDE: return "a byte lies outside memory";
+    case CHIPS69000_RANGE: return "a number is out of its range";
+    case CHIPS69000_BLOCK: return "the block breaks a layout or check rule";
+    case CHIPS69000_STEP: return "the step is none of the allowed";
+    case CHIPS69000_FILE_LENGTH: return "not 1 to 12 whole blocks of 512 bytes";
+    case CHIPS69000_ROOM: return "the lent output is too small";
+    case CHIPS69000_COMMAND: return "a command of no known form";
+    case CHIPS69000_NO_STATE: return "bytes of this length are no state";
+    default: return "a number that the header does not name";
+    }
+}
+
+/* One line on standard error, and the end. */
+static void fail(const char *format, ...)
+{
+    va_list rest;
+    va_start(rest, format);
+    fputs("host: ", stderr);
+    vfprintf(stderr, format, rest);
+    fputc('\n', stderr);
+    va_end(rest);
+    exit(1);
+}
+
+/* ---- The chip: a script is played, and its registers are asked. */
+
+enum { BLOCK = 512, BLOCKS = 12, STEPS = 1008, STEP_ROOM = 32, COMMAND = 4 };
+
+/* A script that was refused: the number says what the value counts. */
+static void look_at_script(const char *path, unsigned number, size_t value)
+{
+    if (number == CHIPS69000_BLOCK)
+        fail("%s: block %zu: %s (number %u)", path, value, meaning(number), number);
+    if (number == CHIPS69000_STEP)
+        fail("%s: step %zu: %s (number %u)", path, value, meaning(number), number);
+    if (number != CHIPS69000_DONE)
+        fail("%s: %s (number %u)", path, meaning(number), number);
+}
+
+/* Checks a script file, translates it into commands and runs them on the state. Gives the numbers of steps and commands. */
+static void play(const char *path, size_t *steps, size_t *commands)
+{
+    /* One byte more than the longest script, so that a longer file is seen to be longer, and refused. */
+    static uint8_t file[BLOCKS * BLOCK + 1];
+    static uint8_t bytes[STEPS * STEP_ROOM];
+    size_t length, count, place;
+    unsigned number;
+
+    FILE *from = fopen(path, "rb");
+    if (!from) fail("%s: cannot be opened", path);
+    length = fread(file, 1, sizeof file, from);
+    if (ferror(from)) fail("%s: cannot be read", path);
+    fclose(from);
+
+    number = chips69000_check_script(file, length, steps);
+    look_at_script(path, number, *steps);
+
+    /* The translation asks for room of 32 bytes a step, and uses 4 bytes a command of it. */
+    number = chips69000_translate_script(file, length, bytes, *steps * STEP_ROOM, commands);
+    look_at_script(path, number, *commands);
+
+    /* The limit bounds the work of one call. Here it is all of the commands. */
+    number = chips69000_run(state, sizeof state, bytes, *commands * COMMAND, *commands, &count, &place);
+    if (number != CHIPS69000_DONE)
+        fail("%s: command %zu: %s (number %u)", path, place, meaning(number), number);
+    if (count != *commands)
+        fail("%s: only %zu of %zu commands were carried out", path, count, *commands);
+}
+
+/* The port accesses of the emulated processor end in these two. */
+static void out(uint16_t port, uint8_t value)
+{
+    unsigned number = chips69000_port_write(state, sizeof state, port, value);
+    if (number != CHIPS69000_DONE) fail("write to port %03Xh: %s (number %u)", (unsigned)port, meaning(number), number);
+}
+
+static uint8_t in(uint16_t port)
+{
+    unsigned word = chips69000_port_read(state, sizeof state, port); /* the byte, plus 256 times the number */
+    if (word >> 8 != CHIPS69000_DONE) fail("read of port %03Xh: %s (number %u)", (unsigned)port, meaning(word >> 8), word >> 8);
+    return (uint8_t)word;
+}
+
+/* A register through its index port; the data port is the next one. */
+static uint8_t indexed(uint16_t port, uint8_t index)
+{
+    out(port, index);
+    return in((uint16_t)(port + 1));
+}
+
+/* The caption below is made for this picture, with a byte a pixel. The picture is the first part of video memory, line by line. */
+enum { WIDTH = 640, HEIGHT = 480 };
+
+static void look_at_picture(void)
+{
+    uint16_t cr = in(0x3CC) & 0x01 ? 0x3D4 : 0x3B4; /* MSR bit 0 picks the CR pair */
+    unsigned high = indexed(cr, 0x07);              /* bits 1 and 6 are bits 8 and 9 of the last line shown */
+    unsigned width = (indexed(cr, 0x01) + 1u) * 8;
+    unsigned height = (indexed(cr, 0x12) | (high & 0x02) << 7 | (high & 0x40) << 3) + 1;
+    unsigned depth = indexed(0x3D6, 0x81) & 0x0F; /* XR81: 2 is 8 bits a pixel */
+
+    if (width != WIDTH || height != HEIGHT || depth != 2)
+        fail("the caption is for %d by %d at 8 bits a pixel; the script sets %u by %u and XR81 bits 3-0 to %u", WIDTH, HEIGHT,
+             width, height, depth);
+}
+
+/* ---- Video memory: the picture, then patterns and letters where nobody sees them. */
+
+/* The colours, as the script names them. */
+enum { BACKGROUND, TEXT, SPOKEN, COLOURS };
+
+/* Raster codes: bit 4P + 2S + D of the code is the result for a pattern bit P, a source bit S and a bit D already there. */
+enum {
+    ZEROS = 0x00,     /* 0, whatever is there: pixel 0, the background */
+    PATTERN = 0xF0,   /* P */
+    SOURCE = 0xCC,    /* S */
+    THROUGH = 0xE2,   /* P where S is 1, and D where S is 0: the source is a stencil, the pattern its colour */
+};
+
+/* A pattern is 8 rows of 8 bytes, at a multiple of 64: one for each colour, then the hatch. */
+enum { PATTERN_SIZE = 64, PATTERNS = WIDTH * HEIGHT, HATCH = PATTERNS + COLOURS * PATTERN_SIZE };
+
+static void put(size_t at, uint8_t value)
+{
+    unsigned number = chips69000_memory_write(memory, sizeof memory, at, value);
+    if (number != CHIPS69000_DONE) fail("memory byte %zu: %s (number %u)", at, meaning(number), number);
+}
+
+/* A transfer into the picture at (x, y), rightward and downward. What a code does not use may be anything: here 0. */
+static void transfer(unsigned x, unsigned y, unsigned width, unsigned height, uint8_t code, uint32_t source, uint32_t span,
+                     uint32_t pattern)
+{
+    unsigned number = chips69000_transfer(memory, sizeof memory, y * WIDTH + x, WIDTH, source, span, width, height, code, false,
+                                          false, pattern, y % 8);
+    if (number != CHIPS69000_DONE) fail("transfer to (%u, %u): %s (number %u)", x, y, meaning(number), number);
+}
+
+static void lay_patterns(void)
+{
+    unsigned colour, i;
+    for (colour = 0; colour < COLOURS; colour++)
+        for (i = 0; i < PATTERN_SIZE; i++) put(PATTERNS + colour * PATTERN_SIZE + i, (uint8_t)colour);
+    for (i = 0; i < PATTERN_SIZE; i++) put(HATCH + i, (i / 8 + i) % 8 < 4 ? SPOKEN : BACKGROUND);
+}
+
+/* A sheet of all letters as stencils, FFh for ink and 00h beside it, each pixel a square of `scale` by `scale`. */
+struct sheet {
+    uint32_t at;
+    unsigned scale;
+};
+
+enum { LETTERS = sizeof letters / sizeof letters[0] };
+
+static unsigned sheet_size(unsigned scale)
+{
+    return LETTERS * LETTER_WIDTH * LETTER_HEIGHT * scale * scale;
+}
+
+static void lay_sheet(struct sheet sheet)
+{
+    unsigned width = LETTER_WIDTH * sheet.scale, height = LETTER_HEIGHT * sheet.scale, letter, x, y;
+    size_t at = sheet.at;
+    for (letter = 0; letter < LETTERS; letter++)
+        for (y = 0; y < height; y++)
+            for (x = 0; x < width; x++)
+                put(at++, letters[letter][1 + y / sheet.scale] & 0x80 >> x / sheet.scale ? 0xFF : 0x00);
+}
+
+/* A line of text across the middle of the picture: each letter is one transfer from the sheet. */
+static void draw_line(struct sheet sheet, unsigned y, uint32_t colour, const char *text)
+{
+    unsigned width = LETTER_WIDTH * sheet.scale, height = LETTER_HEIGHT * sheet.scale, letter;
+    unsigned x = (WIDTH - (unsigned)strlen(text) * width) / 2;
+    for (; *text; text++, x += width)
+        for (letter = 0; letter < LETTERS; letter++)
+            if (letters[letter][0] == *text)
+                transfer(x, y, width, height, THROUGH, sheet.at + letter * width * height, width, PATTERNS + colour * PATTERN_SIZE);
+}
+
+static void draw_caption(void)
+{
+    struct sheet small, medium, large;
+    small.scale = 1, small.at = HATCH + PATTERN_SIZE;
+    medium.scale = 2, medium.at = small.at + sheet_size(small.scale);
+    large.scale = 4, large.at = medium.at + sheet_size(medium.scale);
+    lay_patterns();
+    lay_sheet(small);
+    lay_sheet(medium);
+    lay_sheet(large);
+
+    /* The background, and a box: a rectangle of text colour with a smaller one of background in it. */
+    transfer(0, 0, WIDTH, HEIGHT, ZEROS, 0, 0, 0);
+    transfer(24, 24, 592, 432, PATTERN, 0, 0, PATTERNS + TEXT * PATTERN_SIZE);
+    transfer(28, 28, 584, 424, ZEROS, 0, 0, 0);
+
+    /* A hatched bar, and a copy of it: the source is the bar, in the picture itself. */
+    transfer(96, 144, 448, 16, PATTERN, 0, 0, HATCH);
+    transfer(96, 360, 448, 16, SOURCE, 144 * WIDTH + 96, WIDTH, 0);
+
+    draw_line(large, 64, TEXT, "THE CLOCK ROOM");
+    draw_line(medium, 184, TEXT, "THE GREAT CLOCK OF 1745");
+    draw_line(medium, 240, SPOKEN, "STRIKES EVERY QUARTER HOUR");
+    draw_line(medium, 296, TEXT, "AND PLAYS A TUNE AT NOON.");
+    draw_line(small, 404, TEXT, "THE LINE IN AMBER IS BEING SPOKEN.");
+}
+
+/* ---- The picture, through the palette. */
+
+static void show(const char *path)
+{
+    static uint8_t colours[256][3], line[WIDTH][3];
+    unsigned pixel, x, y;
+    FILE *to;
+    bool bad;
+
+    /* A pixel has one of 256 values: each is asked for once. The number is above the three components. */
+    for (pixel = 0; pixel < 256; pixel++) {
+        uint32_t colour = chips69000_pixel(state, sizeof state, (uint8_t)pixel);
+        unsigned number = colour >> 24;
+        if (number != CHIPS69000_DONE) fail("pixel %u: %s (number %u)", pixel, meaning(number), number);
+        colours[pixel][0] = (uint8_t)(colour >> 16);
+        colours[pixel][1] = (uint8_t)(colour >> 8);
+        colours[pixel][2] = (uint8_t)colour;
+    }
+
+    to = path ? fopen(path, "wb") : stdout;
+    if (!path) path = "standard output";
+    if (!to) fail("%s: cannot be opened", path);
+
+    /* The memory is ours, so we look at it without a call. */
+    fprintf(to, "P6\n%d %d\n255\n", WIDTH, HEIGHT);
+    for (y = 0; y < HEIGHT; y++) {
+        for (x = 0; x < WIDTH; x++) memcpy(line[x], colours[memory[y * WIDTH + x]], 3);
+        fwrite(line, 1, sizeof line, to);
+    }
+    bad = ferror(to) != 0;
+    if (fclose(to) != 0 || bad) fail("%s: cannot be written", path);
+}
+
+int main(int argc, char **argv)
+{
+    const char *path = argc == 3 ? argv[2] : NULL;
+    size_t steps, commands;
+    unsigned number;
+    if (argc != 2 && argc != 3) {
+        fputs("usage: host SCRIPT [PICTURE]\n", stderr);
+        return 2;
+    }
+
+    /* Bit 1 of the first pin byte is pin CFG1: were it 0, every port would be closed. Here all sixteen pins are 1, as on a board
+     * with no resistor that pulls one low (databook, XR70 and XR71). */
+    number = chips69000_reset(state, sizeof state, 0xFF, 0xFF);
+    if (number != CHIPS69000_DONE) fail("reset: %s (number %u)", meaning(number), number);
+
+    /* A reset says nothing of video memory. It begins as anything, so that what the caption does not cover would be seen. */
+    memset(memory, 0xA5, sizeof memory);
+
+    play(argv[1], &steps, &commands);
+    look_at_picture();
+    draw_caption();
+    show(path);
+    fprintf(stderr, "%s: %zu steps, %zu commands carried out; a picture of %d by %d pixels to %s\n", argv[1], steps,
+            commands, WIDTH, HEIGHT, path ? path : "standard output");
+    return 0;
+}

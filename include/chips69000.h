@@ -1,0 +1,88 @@
+/* The CHIPS 69000 graphics controller, as a library of proved functions. Link with libchips69000.a.
+ *
+ * The caller owns everything. The chip's state is CHIPS69000_STATE_SIZE bytes that it lends to each call: any bytes of that
+ * length are a state, and they can be copied, saved and restored between calls. A state of another length is refused with
+ * CHIPS69000_NO_STATE, and no byte of it changes. Video memory, script files, step lists and command bytes are lent in the same
+ * way, each as a pointer with its length; every length is accepted, and nothing outside is touched.
+ *
+ * Pointers are not NULL, also where a length is 0, and point to as many bytes as the length beside them says. Bytes that a call may
+ * change do not overlap any other argument of that call. Two calls may run at the same time on different states.
+ */
+#ifndef CHIPS69000_H
+#define CHIPS69000_H
+
+#include <stddef.h>
+#include <stdint.h>
+#ifndef __cplusplus
+#include <stdbool.h>
+#endif
+
+#ifdef __cplusplus
+extern "C" {
+#endif
+
+/* The bytes of a state, and of the part's whole video memory. */
+#define CHIPS69000_STATE_SIZE 2317
+#define CHIPS69000_MEMORY_SIZE 2097152
+
+/* What a call returns. */
+#define CHIPS69000_DONE 0            /* done */
+#define CHIPS69000_UNLISTED 1        /* port, or its direction, not listed */
+#define CHIPS69000_CLOSED 2          /* a port access while pin CFG1 is 0 */
+#define CHIPS69000_MEMORY_LENGTH 3   /* memory length not allowed */
+#define CHIPS69000_OUTSIDE 4         /* a byte used lies outside memory */
+#define CHIPS69000_RANGE 5           /* a transfer number out of its range */
+#define CHIPS69000_BLOCK 6           /* a block breaks a layout or check rule; the value is its number */
+#define CHIPS69000_STEP 7            /* a step is none of the allowed; the value is its number */
+#define CHIPS69000_FILE_LENGTH 8     /* file not 1 to 12 whole blocks, or step list not 1 to 1,008 whole steps */
+#define CHIPS69000_ROOM 9            /* lent output too small: 32 bytes a step (commands), 512 a block (files) */
+#define CHIPS69000_COMMAND 10        /* command bytes not a multiple of 4, or a command of no known form */
+#define CHIPS69000_NO_STATE 255      /* the state's length is not CHIPS69000_STATE_SIZE */
+
+/* ---- The state. */
+
+/* A reset, with the two bytes that the configuration pins show. It sets every byte, so a new state needs no clearing. */
+uint8_t chips69000_reset(uint8_t *state, size_t state_length, uint8_t pins_first, uint8_t pins_second);
+
+/* A port write. */
+uint8_t chips69000_port_write(uint8_t *state, size_t state_length, uint16_t port, uint8_t value);
+
+/* A port read: the byte, plus 256 times the number. The byte is FFh where the number is not 0. */
+uint16_t chips69000_port_read(uint8_t *state, size_t state_length, uint16_t port);
+
+/* The colour of a pixel: bits 16 to 23 are red, 8 to 15 green and 0 to 7 blue; bits 24 to 31 are the number. */
+uint32_t chips69000_pixel(const uint8_t *state, size_t state_length, uint8_t pixel);
+
+/* ---- Video memory: any multiple of 4 from 4,096 to CHIPS69000_MEMORY_SIZE bytes. */
+
+/* One byte: the byte, plus 256 times the number. The byte is FFh where the number is not 0. */
+uint16_t chips69000_memory_read(const uint8_t *memory, size_t memory_length, size_t at);
+
+uint8_t chips69000_memory_write(uint8_t *memory, size_t memory_length, size_t at, uint8_t value);
+
+/* A block transfer at 8 bits a pixel. Width is in bytes, height in lines; an address is the first byte worked on. */
+uint8_t chips69000_transfer(uint8_t *memory, size_t memory_length, uint32_t destination, uint32_t destination_span,
+                            uint32_t source, uint32_t source_span, uint32_t width, uint32_t height, uint8_t code,
+                            bool leftward, bool upward, uint32_t pattern, uint32_t pattern_row);
+
+/* ---- Scripts and commands. The value is 0 where the number has none. */
+
+/* A script file checked. The value is the number of its steps, or what the number says. */
+uint8_t chips69000_check_script(const uint8_t *file, size_t file_length, size_t *value);
+
+/* A list of six-byte steps written as a file. The value is the number of blocks, or what the number says. */
+uint8_t chips69000_write_script(const uint8_t *steps, size_t steps_length, uint8_t *file, size_t file_length, size_t *value);
+
+/* A script file translated into four-byte commands. The value is their number, or what the number says. */
+uint8_t chips69000_translate_script(const uint8_t *file, size_t file_length, uint8_t *commands, size_t commands_length,
+                                    size_t *value);
+
+/* Commands run on a state, up to a limit. The count is of those carried out; the place is that of a refused one. */
+uint8_t chips69000_run(uint8_t *state, size_t state_length, const uint8_t *commands, size_t commands_length, size_t limit,
+                       size_t *count, size_t *place);
+
+#ifdef __cplusplus
+}
+#endif
+
+#endif

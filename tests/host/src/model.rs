@@ -1,0 +1,269 @@
+//! The chip, written from document 01 and from nothing else of this repository but the rows of registers, which are read from the
+//! definitions' text (crates/registers/specs): they are data, and have no second source here.
+
+use std::collections::HashMap;
+
+pub const GROUPS: [(&str, &str); 6] = [
+    ("CR", include_str!("../../../crates/registers/specs/CrtController.antt")),
+    ("SR", include_str!("../../../crates/registers/specs/Sequencer.antt")),
+    ("GR", include_str!("../../../crates/registers/specs/Graphics.antt")),
+    ("XR", include_str!("../../../crates/registers/specs/Extension.antt")),
+    ("FR", include_str!("../../../crates/registers/specs/FlatPanel.antt")),
+    ("MR", include_str!("../../../crates/registers/specs/Multimedia.antt")),
+];
+
+/// Writable bits and reset byte of a register, by group number and index.
+pub struct Rows(HashMap<(usize, u8), (u8, u8)>);
+
+fn hex(word: &str) -> u8 {
+    u8::from_str_radix(word.strip_prefix("0x").unwrap(), 16).unwrap()
+}
+
+impl Rows {
+    pub fn read() -> Rows {
+        let mut rows = HashMap::new();
+        for (g, (_, text)) in GROUPS.iter().enumerate() {
+            for line in text.lines().filter(|l| l.contains("reg 0x")) {
+                let quoted: Vec<&str> = line.split('"').collect();
+                let index = hex(quoted[0].split_whitespace().last().unwrap());
+                let rest: Vec<&str> = quoted[2].split_whitespace().collect();
+                rows.insert((g, index), (hex(rest[0]), hex(rest[1])));
+            }
+        }
+        assert!(rows.len() > 200, "only {} rows of registers were found", rows.len());
+        Rows(rows)
+    }
+
+    pub fn writable(&self, g: usize, i: u8) -> u8 {
+        self.0.get(&(g, i)).map_or(0, |r| r.0)
+    }
+
+    pub fn reset(&self, g: usize, i: u8) -> u8 {
+        self.0.get(&(g, i)).map_or(0, |r| r.1)
+    }
+}
+
+#[derive(Clone, PartialEq, Debug)]
+pub struct Chip {
+    tables: [[u8; 256]; 6],
+    indexes: [u8; 6],
+    msr: u8,
+    palmask: u8,
+    palette: [[u8; 3]; 256],
+    index: u8,
+    position: u8,
+    held: [u8; 2],
+    reading: bool,
+    spare: u8,
+}
+
+const CR: usize = 0;
+const XR: usize = 3;
+
+/// What a port leads to.
+enum Port {
+    Index(usize),
+    Data(usize),
+    Msr,
+    Palmask,
+    ReadIndex,
+    WriteIndex,
+    Paldata,
+    NotPicked,
+}
+
+impl Chip {
+    pub fn reset(rows: &Rows, first: u8, second: u8) -> Chip {
+        let mut tables = [[0; 256]; 6];
+        for (g, table) in tables.iter_mut().enumerate() {
+            for i in 0..=255u8 {
+                table[i as usize] = rows.reset(g, i);
+            }
+        }
+        tables[XR][0x70] = first | 1;
+        tables[XR][0x71] = second;
+        tables[XR][0x08] = first & 2;
+        Chip {
+            tables,
+            indexes: [0; 6],
+            msr: 0,
+            palmask: 0,
+            palette: [[0; 3]; 256],
+            index: 0,
+            position: 0,
+            held: [0; 2],
+            reading: false,
+            spare: 0,
+        }
+    }
+
+    /// The chip that bytes hold: the tables, the palette, MSR and PALMASK, the indexes, the palette's loading state.
+    pub fn from_bytes(b: &[u8]) -> Chip {
+        let mut at = b.iter().copied();
+        let mut next = || at.next().unwrap();
+        let mut tables = [[0; 256]; 6];
+        tables.iter_mut().flatten().for_each(|x| *x = next());
+        let mut palette = [[0; 3]; 256];
+        palette.iter_mut().flatten().for_each(|x| *x = next());
+        let (msr, palmask) = (next(), next());
+        let mut indexes = [0; 6];
+        indexes.iter_mut().for_each(|x| *x = next());
+        let (index, position, held, last) = (next(), next(), [next(), next()], next());
+        Chip { tables, indexes, msr, palmask, palette, index, position, held, reading: last & 1 == 1, spare: last >> 1 }
+    }
+
+    pub fn to_bytes(&self, out: &mut Vec<u8>) {
+        out.clear();
+        out.extend(self.tables.iter().flatten());
+        out.extend(self.palette.iter().flatten());
+        out.extend([self.msr, self.palmask]);
+        out.extend(self.indexes);
+        out.extend([self.index, self.position, self.held[0], self.held[1], self.spare << 1 | self.reading as u8]);
+    }
+
+    fn leads(&self, port: u16, write: bool) -> Option<Port> {
+        let picked = |colour: bool, p: Port| if (self.msr & 1 == 1) == colour { p } else { Port::NotPicked };
+        Some(match port {
+            0x3B4 => picked(false, Port::Index(CR)),
+            0x3B5 => picked(false, Port::Data(CR)),
+            0x3D4 => picked(true, Port::Index(CR)),
+            0x3D5 => picked(true, Port::Data(CR)),
+            0x3C4 => Port::Index(1),
+            0x3C5 => Port::Data(1),
+            0x3CE => Port::Index(2),
+            0x3CF => Port::Data(2),
+            0x3D6 => Port::Index(3),
+            0x3D7 => Port::Data(3),
+            0x3D0 => Port::Index(4),
+            0x3D1 => Port::Data(4),
+            0x3D2 => Port::Index(5),
+            0x3D3 => Port::Data(5),
+            0x3C2 if write => Port::Msr,
+            0x3CC if !write => Port::Msr,
+            0x3C6 => Port::Palmask,
+            0x3C7 => Port::ReadIndex,
+            0x3C8 => Port::WriteIndex,
+            0x3C9 => Port::Paldata,
+            _ => return None,
+        })
+    }
+
+    fn is_open(&self) -> bool {
+        self.tables[XR][0x70] & 2 != 0
+    }
+
+    fn is_eight_bit(&self) -> bool {
+        self.tables[XR][0x80] & 0x80 != 0
+    }
+
+    fn by_mode(&self, v: u8) -> u8 {
+        if self.is_eight_bit() { v } else { v % 64 }
+    }
+
+    /// Red, green or blue: any other position counts as red.
+    fn at(&self) -> usize {
+        if self.position <= 2 { self.position as usize } else { 0 }
+    }
+
+    fn move_on(&mut self) {
+        if self.at() == 2 {
+            self.index = self.index.wrapping_add(1);
+        }
+        self.position = (self.at() as u8 + 1) % 3;
+    }
+
+    fn write_rule(old: u8, v: u8, mask: u8) -> u8 {
+        (0..8).map(|k| 1 << k).map(|bit| if mask & bit != 0 { v & bit } else { old & bit }).sum()
+    }
+
+    pub fn write(&mut self, rows: &Rows, port: u16, v: u8) -> u8 {
+        if !self.is_open() {
+            return 2;
+        }
+        let Some(p) = self.leads(port, true) else { return 1 };
+        match p {
+            Port::Index(g) => self.indexes[g] = v,
+            Port::Data(g) => {
+                let i = self.indexes[g];
+                let mut mask = rows.writable(g, i);
+                if g == CR && i <= 7 && self.tables[CR][0x11] & 0x80 != 0 {
+                    mask &= if i == 7 { 0x10 } else { 0 };
+                }
+                let byte = &mut self.tables[g][i as usize];
+                *byte = Chip::write_rule(*byte, v, mask);
+            }
+            Port::Msr => self.msr = Chip::write_rule(self.msr, v, 0xEF),
+            Port::Palmask => self.palmask = v,
+            Port::ReadIndex => (self.index, self.position, self.reading) = (v, 0, true),
+            Port::WriteIndex => (self.index, self.position, self.reading) = (v, 0, false),
+            Port::Paldata => {
+                match self.at() {
+                    2 => self.palette[self.index as usize] = [self.held[0], self.held[1], v].map(|x| self.by_mode(x)),
+                    k => self.held[k] = v,
+                }
+                self.move_on();
+            }
+            Port::NotPicked => {}
+        }
+        0
+    }
+
+    pub fn read(&mut self, port: u16) -> (u8, u8) {
+        if !self.is_open() {
+            return (2, 0xFF);
+        }
+        let Some(p) = self.leads(port, false) else { return (1, 0xFF) };
+        let v = match p {
+            Port::Index(g) => self.indexes[g],
+            Port::Data(g) => self.tables[g][self.indexes[g] as usize],
+            Port::Msr => self.msr,
+            Port::Palmask => self.palmask,
+            Port::ReadIndex => if self.reading { 3 } else { 0 },
+            Port::WriteIndex => self.index,
+            Port::Paldata => {
+                let v = self.by_mode(self.palette[self.index as usize][self.at()]);
+                self.move_on();
+                v
+            }
+            Port::NotPicked => 0xFF,
+        };
+        (0, v)
+    }
+
+    pub fn shown(&self, pixel: u8) -> [u8; 3] {
+        let entry = self.palette[(pixel & self.palmask) as usize];
+        entry.map(|v| if self.is_eight_bit() { v } else { v % 64 * 4 })
+    }
+
+    /// The number, the count and the place.
+    pub fn run(&mut self, rows: &Rows, bytes: &[u8], limit: usize) -> (u8, usize, usize) {
+        if bytes.len() % 4 != 0 {
+            return (10, 0, 0);
+        }
+        let mut acc = 0;
+        for (place, c) in bytes.chunks(4).enumerate() {
+            if place == limit {
+                return (0, place, 0);
+            }
+            let port = u16::from_le_bytes([c[1], c[2]]);
+            let number = match c[0] {
+                1 => self.write(rows, port, c[3]),
+                2 if c[3] == 0 => {
+                    let (n, v) = self.read(port);
+                    acc = v;
+                    n
+                }
+                3 if c[3] == 0 => {
+                    acc = acc & c[1] | c[2];
+                    0
+                }
+                4 if c[3] == 0 => self.write(rows, port, acc),
+                _ => 10,
+            };
+            if number != 0 {
+                return (number, place, place);
+            }
+        }
+        (0, bytes.len() / 4, 0)
+    }
+}

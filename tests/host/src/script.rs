@@ -1,0 +1,113 @@
+//! Scripts, written from document 01: a file checked, a list of steps written as a file, a file translated into commands.
+//! Each answers a number and a value.
+
+fn is_step(s: &[u8]) -> bool {
+    match s[0] {
+        1 => s[1] <= 7 && (s[1] < 6 || s[2] == 0) && s[4] == 0 && s[5] == 0,
+        2 => s[1] <= 7 && (s[1] < 6 || s[2] == 0) && s[3] & !s[4] == 0 && s[5] == 0,
+        3 => s[5] == 0,
+        _ => false,
+    }
+}
+
+fn sum(block: &[u8]) -> u16 {
+    block.chunks(2).fold(0u16, |n, w| n.wrapping_add(u16::from_le_bytes([w[0], w[1]])))
+}
+
+fn is_block(b: &[u8], number: usize, last: bool) -> bool {
+    let count = b[2] as usize;
+    usize::from(u16::from_le_bytes([b[0], b[1]])) == number
+        && (if last { (1..=84).contains(&count) } else { count == 84 })
+        && b[3] == u8::from(last)
+        && b[4] == 0
+        && b[5] == 0
+        && b[6 + 6 * count..510].iter().all(|&x| x == 0)
+        && sum(b) == 1
+}
+
+/// The steps of a file, or the refusal.
+fn steps(file: &[u8]) -> Result<Vec<&[u8]>, (u8, usize)> {
+    let blocks = file.len() / 512;
+    if file.len() % 512 != 0 || !(1..=12).contains(&blocks) {
+        return Err((8, 0));
+    }
+    for (k, b) in file.chunks(512).enumerate() {
+        if !is_block(b, k, k + 1 == blocks) {
+            return Err((6, k));
+        }
+    }
+    let list: Vec<&[u8]> = file.chunks(512).flat_map(|b| b[6..6 + 6 * b[2] as usize].chunks(6)).collect();
+    match list.iter().position(|s| !is_step(s)) {
+        Some(j) => Err((7, j)),
+        None => Ok(list),
+    }
+}
+
+pub fn check(file: &[u8]) -> (u8, usize) {
+    steps(file).map_or_else(|e| e, |list| (0, list.len()))
+}
+
+fn block(number: usize, steps: &[u8], last: bool) -> Vec<u8> {
+    let mut b = vec![number as u8, 0, (steps.len() / 6) as u8, u8::from(last), 0, 0];
+    b.extend(steps);
+    b.resize(510, 0);
+    b.extend(1u16.wrapping_sub(sum(&b)).to_le_bytes());
+    b
+}
+
+pub fn write(list: &[u8], out: &mut [u8]) -> (u8, usize) {
+    let count = list.len() / 6;
+    if list.len() % 6 != 0 || !(1..=1008).contains(&count) {
+        return (8, 0);
+    }
+    if let Some(j) = list.chunks(6).position(|s| !is_step(s)) {
+        return (7, j);
+    }
+    let file: Vec<u8> = list.chunks(504).enumerate().flat_map(|(k, s)| block(k, s, (k + 1) * 504 >= list.len())).collect();
+    if out.len() < file.len() {
+        return (9, 0);
+    }
+    out[..file.len()].copy_from_slice(&file);
+    (0, file.len() / 512)
+}
+
+fn out(port: u16, v: u8) -> [u8; 4] {
+    [1, port as u8, (port >> 8) as u8, v]
+}
+
+/// The commands of a step; a pair is an index port and a data port, and MSR and PALMASK have a port to read and one to write.
+fn expanded(s: &[u8]) -> Vec<[u8; 4]> {
+    let pairs: &[u16] = match s[1] {
+        0 => &[0x3B4, 0x3D4],
+        1 => &[0x3C4],
+        2 => &[0x3CE],
+        3 => &[0x3D6],
+        4 => &[0x3D0],
+        _ => &[0x3D2],
+    };
+    let change = |read: u16, write: u16| {
+        vec![[2, read as u8, (read >> 8) as u8, 0], [3, !s[4], s[3], 0], [4, write as u8, (write >> 8) as u8, 0]]
+    };
+    match (s[0], s[1]) {
+        (3, _) => vec![out(0x3C8, s[1]), out(0x3C9, s[2]), out(0x3C9, s[3]), out(0x3C9, s[4])],
+        (1, 6) => vec![out(0x3C2, s[3])],
+        (1, 7) => vec![out(0x3C6, s[3])],
+        (1, _) => pairs.iter().flat_map(|&p| [out(p, s[2]), out(p + 1, s[3])]).collect(),
+        (_, 6) => change(0x3CC, 0x3C2),
+        (_, 7) => change(0x3C6, 0x3C6),
+        (_, _) => pairs.iter().flat_map(|&p| [vec![out(p, s[2])], change(p + 1, p + 1)].concat()).collect(),
+    }
+}
+
+pub fn translate(file: &[u8], room: &mut [u8]) -> (u8, usize) {
+    let list = match steps(file) {
+        Ok(list) => list,
+        Err(e) => return e,
+    };
+    if room.len() < 32 * list.len() {
+        return (9, 0);
+    }
+    let bytes: Vec<u8> = list.iter().flat_map(|s| expanded(s)).flatten().collect();
+    room[..bytes.len()].copy_from_slice(&bytes);
+    (0, bytes.len() / 4)
+}
