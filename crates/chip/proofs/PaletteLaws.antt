@@ -11,7 +11,7 @@ use lib.Seq.{getD-set-same, getD-set-other}
 use Rattle.lists.specs.Bits.{isSet}
 use Rattle.registers.specs.Extension.{XR}
 use Rattle.registers.specs.Groups.{rowOf}
-use Rattle.registers.specs.WriteRule.{writableNow}
+use Rattle.registers.specs.WriteRule.{lockedBy, writableNow}
 use Rattle.registers.specs.declared.Group.the-variants.{Xr}
 use Rattle.ports.specs.Ports.{ports, target}
 use Rattle.chip.specs.State.{Named, named, join, withIndex, withLoading}
@@ -110,7 +110,7 @@ module _ (n : Named) (x : Indexes) (l : Loading) (e : ℕ) (reading : Bool) (fre
 
 -- XR80 bit 7 is the mode, as it was last received
 pub XR80-sets-mode : (n : Named) (w : ℕ) → Has Xr n 0x80 → eightBit (received Xr n 0x80 w) ≡ isSet 7 w
-unfolding eightBit locked writableNow rowOf XR
+unfolding eightBit locked lockedBy writableNow rowOf XR
 XR80-sets-mode n w has = ap (λ (d : ℕ). eqb d 1) (received-bit 7 Xr n 0x80 w (omega arith) has)
 
 XR80-leaves-ports : (n : Named) (w : ℕ) → portsOpen (received Xr n 0x80 w) ≡ portsOpen n

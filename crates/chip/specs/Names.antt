@@ -2,11 +2,11 @@
 -- and "Scripts" for the word: a register that receives a byte is written by name, protection included.
 -- What layers above may use of this are the laws in proofs/NameLaws, not the tables.
 use Prim.Native.Nat.{ℕ}
-use mathlib.Core.Bool.{Bool, false, cond}
+use mathlib.Core.Bool.{Bool, cond}
 use lib.ListN.{getD, set}
 use Rattle.lists.specs.Bits.{isSet}
 use Rattle.registers.specs.Groups.{is}
-use Rattle.registers.specs.WriteRule.{writableNow, written}
+use Rattle.registers.specs.WriteRule.{lockedBy, writableNow, written}
 use Rattle.registers.specs.declared.Group.{Group}
 use Rattle.registers.specs.declared.Group.the-variants.{Cr, Sr, Gr, Xr, Fr, Mr, Msr, Palmask}
 use Rattle.chip.specs.State.{Named}
@@ -36,16 +36,9 @@ replaced g n i b = record {
   palette = n .palette;
 }
 
--- whether a group's registers are under a lock: CR11 bit 7 for CR, and no other group has one
+-- whether a group's registers are under a lock
 unfoldable pub locked : Group → Named → Bool
-locked Cr n = isSet 7 (register Cr n 0x11)
-locked Sr n = false
-locked Gr n = false
-locked Xr n = false
-locked Fr n = false
-locked Mr n = false
-locked Msr n = false
-locked Palmask n = false
+locked g n = lockedBy g (register Cr n 0x11)
 
 -- the bits of a register that a write can change at this moment
 abbrev pub writableAt : Group → Named → ℕ → ℕ

@@ -6,6 +6,7 @@ ghost use Rattle.chip.specs.State.{named, withNamed};
 ghost use Rattle.chip.specs.Names.{register, replaced, locked as lockedOf, received, portsOpen, colour as colourOf, eightBit};
 ghost use Rattle.chip.specs.Reset.{resetByte, filled, reset as resetOf};
 use registers::Group;
+use registers::locked_by;
 use registers::reset_byte;
 use registers::writable_now;
 use registers::write;
@@ -69,7 +70,7 @@ fn pinned(i: u8, first: u8, second: u8) -> u8
 }
 
 // The byte that a reset leaves in a register.
-fn after_reset(g: Group, i: u8, first: u8, second: u8) -> u8
+pub fn after_reset(g: Group, i: u8, first: u8, second: u8) -> u8
     ensures { λ r. ⌜ r ≡ resetByte first second g i ⌝ }
 {
     match g {
@@ -185,20 +186,11 @@ impl Chip {
         self
     }
 
-    // Whether a group's registers are under a lock: CR11 bit 7 for CR.
+    // Whether a group's registers are under a lock.
     fn locked(self, g: Group) -> bool
         ensures { λ r. ⌜ r ≡ lockedOf g (named self) ⌝ }
     {
-        match g {
-            Group::Cr => self.get(Group::Cr, 0x11) / 128 % 2 == 1,
-            Group::Sr => false,
-            Group::Gr => false,
-            Group::Xr => false,
-            Group::Fr => false,
-            Group::Mr => false,
-            Group::Msr => false,
-            Group::Palmask => false,
-        }
+        locked_by(g, self.get(Group::Cr, 0x11))
     }
 
     // The state after a register has received a byte, by name.

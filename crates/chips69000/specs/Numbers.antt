@@ -1,35 +1,24 @@
--- The numbers that cross the boundary: document 01's ("Numbers returned"), and 255 for bytes that are no state, which document
--- 01 does not have. A byte that is read comes as 256 times the number plus the byte, a colour as a word of four bytes, the number
--- highest, then red, green and blue; what has a longer value writes it to a place that the caller lends.
+-- The numbers that cross the boundary: document 01's ("Numbers returned"), and `noState` for bytes that are no state. Those of a
+-- port access are crate `state`'s. A colour comes as a word of four bytes, the number highest, then red, green and blue; what has
+-- a longer value writes it to a place that the caller lends.
 use Prim.Native.Nat.{ℕ, _+_, _*_}
-use Rattle.chip.specs.Access.{numberOf}
 use Rattle.run.specs.Run.{ofEnding}
-use Rattle.state.specs.declared.access.Written.{Written}
-use Rattle.state.specs.declared.access.Written.the-variants.{Answered as WriteAnswered, Length as WriteLength}
-use Rattle.state.specs.declared.access.Seen.{Seen}
-use Rattle.state.specs.declared.access.Seen.the-variants.{Answered as ReadAnswered, Length as ReadLength}
+use Rattle.play.specs.Played.{ofOutcome}
+use Rattle.play.specs.declared.Outcome.{Outcome}
+use Rattle.play.specs.declared.Outcome.the-variants.{NotPlayed, Played}
+use Rattle.state.specs.Numbers.{noState}
 use Rattle.state.specs.declared.pixel.Colour.{Colour}
 use Rattle.state.specs.declared.pixel.Colour.the-variants.{Shown, Length as ColourLength}
 use Rattle.restart.specs.declared.Restarted.{Restarted}
 use Rattle.restart.specs.declared.Restarted.the-variants.{Done, Length as RestartLength}
 use Rattle.drive.specs.declared.Driven.{Driven}
 use Rattle.drive.specs.declared.Driven.the-variants.{Ran, Length as DriveLength}
-
--- bytes that are no state
-abbrev pub noState : ℕ
-noState = 255
+use Rattle.perform.specs.declared.Performed.{Performed}
+use Rattle.perform.specs.declared.Performed.the-variants.{Met, Length as PerformLength}
 
 abbrev pub restartNumber : Restarted → ℕ
 restartNumber Done = 0
 restartNumber RestartLength = noState
-
-abbrev pub writeNumber : Written → ℕ
-writeNumber (WriteAnswered a) = numberOf a
-writeNumber WriteLength = noState
-
-abbrev pub readWord : Seen → ℕ
-readWord (ReadAnswered a v) = 256 * numberOf a + v
-readWord ReadLength = 256 * noState + 0xFF
 
 abbrev pub colourWord : Colour → ℕ
 colourWord (Shown c) = 65536 * c .red + 256 * c .green + c .blue
@@ -47,3 +36,20 @@ driveCount DriveLength = 0
 abbrev pub drivePlace : Driven → ℕ
 drivePlace (Ran n e) = ofEnding e .value
 drivePlace DriveLength = 0
+
+-- a script played: the number of the file's refusal or of the run's ending, the commands carried out, and the value beside the number
+abbrev pub playNumber : Performed → ℕ
+playNumber (Met o) = ofOutcome o .number
+playNumber PerformLength = noState
+
+abbrev pub countOf : Outcome → ℕ
+countOf (NotPlayed why) = 0
+countOf (Played count ending) = count
+
+abbrev pub playCount : Performed → ℕ
+playCount (Met o) = countOf o
+playCount PerformLength = 0
+
+abbrev pub playValue : Performed → ℕ
+playValue (Met o) = ofOutcome o .value
+playValue PerformLength = 0

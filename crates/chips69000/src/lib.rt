@@ -9,15 +9,13 @@ ghost use Rattle.chip.specs.Access.{portWritten, portRead};
 ghost use Rattle.chip.specs.Reset.{reset as resetOf};
 ghost use Rattle.state.specs.Layout.{view, spare};
 ghost use Rattle.state.specs.Accesses.{Left, writeAnswer, readAnswer, pixelAnswer};
+ghost use Rattle.state.specs.Numbers.{writeNumber, readWord};
 ghost use Rattle.restart.specs.Fresh.{restartAnswer};
-ghost use Rattle.chips69000.specs.Numbers.{restartNumber, writeNumber, readWord, colourWord};
-use chip::access::number;
+ghost use Rattle.chips69000.specs.Numbers.{restartNumber, colourWord};
 use restart::Restarted;
 use restart::restart;
-use state::access::Seen;
-use state::access::Written;
-use state::access::port_read;
-use state::access::port_write;
+use state::access::read_word;
+use state::access::write_number;
 use state::pixel::Colour;
 use state::pixel::colour_of;
 
@@ -25,30 +23,17 @@ pub mod memory;
 pub mod scripts;
 
 // A byte as a longer number.
-fn wide(x: u8) -> u16
-    ensures { λ r. ⌜ r ≡ x ⌝ }
-{
-    x as u16
-}
-
-fn wider(x: u8) -> u32
+fn wide(x: u8) -> u32
     ensures { λ r. ⌜ r ≡ x ⌝ }
 {
     x as u32
-}
-
-// A number and the byte that was read.
-fn word(n: u8, v: u8) -> u16
-    ensures { λ r. ⌜ r ≡ 256 * n + v ⌝ }
-{
-    256 * wide(n) + wide(v)
 }
 
 // A colour as one number.
 fn packed(red: u8, green: u8, blue: u8) -> u32
     ensures { λ r. ⌜ r ≡ 65536 * red + 256 * green + blue ⌝ }
 {
-    65536 * wider(red) + 256 * wider(green) + wider(blue)
+    65536 * wide(red) + 256 * wide(green) + wide(blue)
 }
 
 // A reset that lends two pin bytes.
@@ -69,10 +54,7 @@ pub extern "C" fn chips69000_port_write(state: &mut [u8], port: u16, value: u8) 
     ensures { λ r. ⌜ r ≡ writeNumber (writeAnswer (now (state .entry)) port value) ⌝ }
     ensures { λ _. ⌜ Left (now (state .entry)) (portWritten (view (now (state .entry))) port value .chip) (spare (now (state .entry))) (now (state .exit)) ⌝ }
 {
-    match port_write(state, port, value) {
-        Written::Answered(a) => number(a),
-        Written::Length => 255,
-    }
+    write_number(state, port, value)
 }
 
 // A port read: 256 times the number, plus the byte.
@@ -81,10 +63,7 @@ pub extern "C" fn chips69000_port_read(state: &mut [u8], port: u16) -> u16
     ensures { λ r. ⌜ r ≡ readWord (readAnswer (now (state .entry)) port) ⌝ }
     ensures { λ _. ⌜ Left (now (state .entry)) (portRead (view (now (state .entry))) port .chip) (spare (now (state .entry))) (now (state .exit)) ⌝ }
 {
-    match port_read(state, port) {
-        Seen::Answered(a, v) => word(number(a), v),
-        Seen::Length => 65535,
-    }
+    read_word(state, port)
 }
 
 // The colour of a pixel: red, green and blue below the number.

@@ -1,24 +1,30 @@
 // Scripts and their commands: checking a file, writing one from a list of steps, translating one into
-// commands, and the run on the state. Document 01, "Scripts" and "Commands". The value beside the number is
+// commands, the run on the state, and a file played whole. Document 01, "Scripts" and "Commands". The value beside the number is
 // written to a place that the caller lends; it is 0 where document 01 says "nothing more".
 ghost use mathlib.Core.Path.{_≡_};
 ghost use lib.ListN.{length};
 ghost use Rattle.script.specs.File.{checked};
-ghost use Rattle.script.specs.Numbers.{ofChecked};
+ghost use Rattle.script.specs.Numbers.{ofRefusal, ofChecked};
 ghost use Rattle.writer.specs.Write.{written, ofWritten, leftBy as listLeftBy};
 ghost use Rattle.commands.specs.Translation.{translated, numbersOf, leftBy};
 ghost use Rattle.run.specs.Run.{ran, ofEnding, numberOf as reasonNumber};
+ghost use Rattle.play.specs.Played.{played, ofOutcome};
 ghost use Rattle.state.specs.Layout.{view, spare};
 ghost use Rattle.state.specs.Accesses.{Left};
 ghost use Rattle.drive.specs.Drive.{driveAnswer};
-ghost use Rattle.chips69000.specs.Numbers.{driveNumber, driveCount, drivePlace};
+ghost use Rattle.perform.specs.Perform.{performAnswer, bufferLeft, ByNameIn};
+ghost use Rattle.chips69000.specs.Numbers.{driveNumber, driveCount, drivePlace, playNumber, countOf, playCount, playValue};
 use commands::Translated;
 use commands::translate;
 use drive::Driven;
 use drive::drive;
+use perform::Performed;
+use perform::perform;
+use play::Outcome;
 use run::Ending;
 use run::Reason;
 use script::Checked;
+use script::Refusal;
 use script::check_file;
 use writer::Written;
 
@@ -28,18 +34,30 @@ struct Two {
     value: usize,
 }
 
+fn counted(n: usize) -> Two
+    ensures { λ r. ⌜ (r .number ≡ 0) × (r .value ≡ n) ⌝ }
+{
+    Two {
+        number: 0,
+        value: n,
+    }
+}
+
+fn refused(why: Refusal) -> Two
+    ensures { λ r. ⌜ (r .number ≡ ofRefusal why .number) × (r .value ≡ ofRefusal why .value) ⌝ }
+{
+    Two {
+        number: why.number(),
+        value: why.value(),
+    }
+}
+
 fn of_checked(c: Checked) -> Two
     ensures { λ r. ⌜ (r .number ≡ ofChecked c .number) × (r .value ≡ ofChecked c .value) ⌝ }
 {
     match c {
-        Checked::Accepted(m) => Two {
-            number: 0,
-            value: m,
-        },
-        Checked::Refused(r) => Two {
-            number: r.number(),
-            value: r.value(),
-        },
+        Checked::Accepted(m) => counted(m),
+        Checked::Refused(why) => refused(why),
     }
 }
 
@@ -47,14 +65,8 @@ fn of_written(w: Written) -> Two
     ensures { λ r. ⌜ (r .number ≡ ofWritten w .number) × (r .value ≡ ofWritten w .value) ⌝ }
 {
     match w {
-        Written::Blocks(n) => Two {
-            number: 0,
-            value: n,
-        },
-        Written::Refused(r) => Two {
-            number: r.number(),
-            value: r.value(),
-        },
+        Written::Blocks(n) => counted(n),
+        Written::Refused(why) => refused(why),
     }
 }
 
@@ -62,14 +74,8 @@ fn of_translated(t: Translated) -> Two
     ensures { λ r. ⌜ (r .number ≡ numbersOf t .number) × (r .value ≡ numbersOf t .value) ⌝ }
 {
     match t {
-        Translated::Commands(k) => Two {
-            number: 0,
-            value: k,
-        },
-        Translated::Refused(r) => Two {
-            number: r.number(),
-            value: r.value(),
-        },
+        Translated::Commands(k) => counted(k),
+        Translated::Refused(why) => refused(why),
     }
 }
 
@@ -87,18 +93,30 @@ fn of_ending(e: Ending) -> Two
     ensures { λ r. ⌜ (r .number ≡ ofEnding e .number) × (r .value ≡ ofEnding e .value) ⌝ }
 {
     match e {
-        Ending::Ended => Two {
-            number: 0,
-            value: 0,
-        },
-        Ending::AtLimit => Two {
-            number: 0,
-            value: 0,
-        },
+        Ending::Ended => counted(0),
+        Ending::AtLimit => counted(0),
         Ending::Stopped(place, why) => Two {
             number: of_reason(why),
             value: place,
         },
+    }
+}
+
+fn of_outcome(o: Outcome) -> Two
+    ensures { λ r. ⌜ (r .number ≡ ofOutcome o .number) × (r .value ≡ ofOutcome o .value) ⌝ }
+{
+    match o {
+        Outcome::NotPlayed(why) => refused(why),
+        Outcome::Played(_, e) => of_ending(e),
+    }
+}
+
+fn count_of(o: Outcome) -> usize
+    ensures { λ r. ⌜ r ≡ countOf o ⌝ }
+{
+    match o {
+        Outcome::NotPlayed(_) => 0,
+        Outcome::Played(n, _) => n,
     }
 }
 
@@ -161,6 +179,38 @@ pub extern "C" fn chips69000_run(
         Driven::Length => {
             *count = 0;
             *place = 0;
+            255
+        }
+    }
+}
+
+// A script file played on the state: the entry of demand 3. The buffer is lent for the commands, 32 bytes a
+// step; the count is of the commands carried out, the value as for a translation or a run.
+#[no_mangle]
+pub extern "C" fn chips69000_play(
+    state: &mut [u8],
+    file: &[u8],
+    buffer: &mut [u8],
+    count: &mut usize,
+    value: &mut usize,
+) -> u8
+    ensures { λ r. ⌜ r ≡ playNumber (performAnswer (now (state .entry)) (now (file .entry)) (length (now (buffer .entry)))) ⌝ }
+    ensures { λ _. ⌜ now (count .exit) ≡ playCount (performAnswer (now (state .entry)) (now (file .entry)) (length (now (buffer .entry)))) ⌝ }
+    ensures { λ _. ⌜ now (value .exit) ≡ playValue (performAnswer (now (state .entry)) (now (file .entry)) (length (now (buffer .entry)))) ⌝ }
+    ensures { λ _. ⌜ Left (now (state .entry)) (played (view (now (state .entry))) (now (file .entry)) (length (now (buffer .entry))) .chip) (spare (now (state .entry))) (now (state .exit)) ⌝ }
+    ensures { λ _. ⌜ ByNameIn (now (state .entry)) (now (file .entry)) (length (now (buffer .entry))) (now (state .exit)) (performAnswer (now (state .entry)) (now (file .entry)) (length (now (buffer .entry)))) ⌝ }
+    ensures { λ _. ⌜ now (buffer .exit) ≡ bufferLeft (now (state .entry)) (now (file .entry)) (now (buffer .entry)) ⌝ }
+{
+    match perform(state, file, buffer) {
+        Performed::Met(o) => {
+            let t = of_outcome(o);
+            *count = count_of(o);
+            *value = t.value;
+            t.number
+        }
+        Performed::Length => {
+            *count = 0;
+            *value = 0;
             255
         }
     }

@@ -2,14 +2,26 @@
 -- CR11 bit 7 = 1 stops writes to CR00 to CR07, but CR07 bit 4 can always be written.
 -- That bit for bit this is so is the law `bit-written`, in WriteLaws.
 use Prim.Native.Nat.{ℕ, _-_}
-use mathlib.Core.Bool.{Bool, cond}
+use mathlib.Core.Bool.{Bool, false, cond}
 use lib.Dec.{eqb, ltb}
 use lib.Bits.{bitAnd, bitOr}
+use Rattle.lists.specs.Bits.{isSet}
 use Rattle.registers.specs.Groups.{writableOf}
 use Rattle.registers.specs.declared.Group.{Group}
 use Rattle.registers.specs.declared.Group.the-variants.{Cr, Sr, Gr, Xr, Fr, Mr, Msr, Palmask}
 
--- what a group's lock leaves open of a register; only CR has a lock, CR11 bit 7
+-- whether a group's lock is on, by the byte of CR11: its bit 7 locks CR, and no other group has a lock
+unfoldable pub lockedBy : Group → ℕ → Bool
+lockedBy Cr cr11 = isSet 7 cr11
+lockedBy Sr cr11 = false
+lockedBy Gr cr11 = false
+lockedBy Xr cr11 = false
+lockedBy Fr cr11 = false
+lockedBy Mr cr11 = false
+lockedBy Msr cr11 = false
+lockedBy Palmask cr11 = false
+
+-- what a group's lock leaves open of a register
 unfoldable pub leftOpen : Group → ℕ → ℕ
 leftOpen Cr i = cond (ltb i 0x07) 0x00 (cond (eqb i 0x07) 0x10 0xFF)
 leftOpen Sr i = 0xFF

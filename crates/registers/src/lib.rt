@@ -4,7 +4,7 @@
 // The chip's state is not here: crate `chip` holds it.
 ghost use mathlib.Core.Path.{_≡_};
 ghost use Rattle.registers.specs.Groups.{rowOf, writableOf, resetOf};
-ghost use Rattle.registers.specs.WriteRule.{leftOpen, writableNow, written};
+ghost use Rattle.registers.specs.WriteRule.{lockedBy, leftOpen, writableNow, written};
 
 mod rows;
 
@@ -61,6 +61,22 @@ pub fn reset_byte(g: Group, i: u8) -> u8
     match row_of(g, i) {
         Row::Listed(_, b) => b,
         Row::Unlisted => 0x00,
+    }
+}
+
+// Whether a group's lock is on, by the byte of CR11.
+pub fn locked_by(g: Group, cr11: u8) -> bool
+    ensures { λ r. ⌜ r ≡ lockedBy g cr11 ⌝ }
+{
+    match g {
+        Group::Cr => cr11 / 128 % 2 == 1,
+        Group::Sr => false,
+        Group::Gr => false,
+        Group::Xr => false,
+        Group::Fr => false,
+        Group::Mr => false,
+        Group::Msr => false,
+        Group::Palmask => false,
     }
 }
 

@@ -4,12 +4,12 @@
 ghost use mathlib.Core.Path.{_≡_};
 ghost use Prim.Native.Nat.{_<_};
 ghost use lib.ListN.{length};
-ghost use Rattle.chip.specs.Reset.{resetByte, reset as resetOf};
+ghost use Rattle.chip.specs.Reset.{reset as resetOf};
 ghost use Rattle.state.specs.Layout.{whole, Holds};
 ghost use Rattle.state.specs.Accesses.{Left};
 ghost use Rattle.restart.specs.Fresh.{groupOf, freshByte, restartAnswer};
+use chip::after_reset;
 use registers::Group;
-use registers::reset_byte;
 use state::access::STATE;
 
 // What a reset answers.
@@ -39,34 +39,6 @@ fn group_of(q: usize) -> Group
         return Group::Fr;
     }
     Group::Mr
-}
-
-// The byte that a reset leaves in an XR register, where the pins are seen.
-fn pinned(i: u8, first: u8, second: u8) -> u8
-    ensures { λ r. ⌜ r ≡ resetByte first second Group.Xr i ⌝ }
-{
-    match i {
-        0x08 => first & 0x02,
-        0x70 => first | 0x01,
-        0x71 => second,
-        _ => reset_byte(Group::Xr, i),
-    }
-}
-
-// The byte that a reset leaves in a register.
-fn after_reset(g: Group, i: u8, first: u8, second: u8) -> u8
-    ensures { λ r. ⌜ r ≡ resetByte first second g i ⌝ }
-{
-    match g {
-        Group::Xr => pinned(i, first, second),
-        Group::Cr => reset_byte(g, i),
-        Group::Sr => reset_byte(g, i),
-        Group::Gr => reset_byte(g, i),
-        Group::Fr => reset_byte(g, i),
-        Group::Mr => reset_byte(g, i),
-        Group::Msr => reset_byte(g, i),
-        Group::Palmask => reset_byte(g, i),
-    }
 }
 
 // Byte k of a state after a reset.

@@ -5,7 +5,7 @@ use Rattle.registers.specs.CrtController.{CR}
 use Rattle.registers.specs.Extension.{XR}
 use Rattle.registers.specs.Multimedia.{MR}
 use Rattle.registers.specs.Groups.{rowOf}
-use Rattle.registers.specs.WriteRule.{leftOpen, writableNow, written}
+use Rattle.registers.specs.WriteRule.{lockedBy, leftOpen, writableNow, written}
 use Rattle.ports.specs.Ports.{ports, target}
 use Rattle.chip.specs.Names.{locked, received, portsOpen, colour, eightBit}
 use Rattle.chip.specs.Palette.{coloured, loaded, shown}
@@ -22,5 +22,5 @@ use Rattle.commands.specs.Expansion.{ways, expanded}
 use Rattle.setups.specs.Setups.{setups, allHold}
 
 pub setups-hold : allHold setups ≡ true
-unfolding setups CR XR MR rowOf leftOpen writableNow written ports target locked received portsOpen colour eightBit coloured loaded shown portWritten portRead resetByte filled reset number raster usesSource usesPattern byteDone inTurn lineDone linesDone inRange inMemory transferred tab bytesOf wordSum front blocksTo bytesOfAll ways expanded
+unfolding setups CR XR MR rowOf lockedBy leftOpen writableNow written ports target locked received portsOpen colour eightBit coloured loaded shown portWritten portRead resetByte filled reset number raster usesSource usesPattern byteDone inTurn lineDone linesDone inRange inMemory transferred tab bytesOf wordSum front blocksTo bytesOfAll ways expanded
 setups-hold = refl

@@ -1,11 +1,13 @@
 // Port reads and writes on lent bytes, in place. Document 01, "Ports" and numbers 0, 1 and 2. The text is that
 // of crate `chip`'s methods, each callee working on the bytes. A refused access changes no byte.
 ghost use mathlib.Core.Path.{_≡_};
+ghost use Prim.Native.Nat.{_+_, _*_};
 ghost use lib.ListN.{length};
 ghost use Rattle.chip.specs.State.{withIndexes, indexOf, withIndex};
 ghost use Rattle.chip.specs.Access.{portWritten, portRead};
 ghost use Rattle.state.specs.Layout.{whole, view, spare, Holds};
 ghost use Rattle.state.specs.Accesses.{Left, writeAnswer, readAnswer, WroteIn, ReadIn};
+ghost use Rattle.state.specs.Numbers.{writeNumber, readWord};
 use crate::aim;
 use crate::get;
 use crate::is_colour;
@@ -16,6 +18,7 @@ use crate::palstate;
 use crate::put;
 use crate::step;
 use chip::access::Answer;
+use chip::access::number;
 use ports::Target;
 use ports::leads_to;
 use registers::Group;
@@ -176,4 +179,35 @@ pub fn port_read(state: &mut [u8], port: u16) -> Seen
     let g = read_in(state, port);
     let answer = g.answer;
     Seen::Answered(answer, g.value)
+}
+
+// A number and a byte as one word.
+fn word(n: u8, v: u8) -> u16
+    ensures { λ r. ⌜ r ≡ 256 * n + v ⌝ }
+{
+    256 * (n as u16) + (v as u16)
+}
+
+// A port write that answers by its number alone.
+pub fn write_number(state: &mut [u8], port: u16, v: u8) -> u8
+    ensures { λ r. ⌜ r ≡ writeNumber (writeAnswer (now (state .entry)) port v) ⌝ }
+    ensures { λ _. ⌜ Left (now (state .entry)) (portWritten (view (now (state .entry))) port v .chip) (spare (now (state .entry))) (now (state .exit)) ⌝ }
+{
+    if state.len() != STATE {
+        return 255;
+    }
+    number(write_in(state, port, v))
+}
+
+// A port read that answers by 256 times its number, plus the byte.
+pub fn read_word(state: &mut [u8], port: u16) -> u16
+    ensures { λ r. ⌜ r ≡ readWord (readAnswer (now (state .entry)) port) ⌝ }
+    ensures { λ _. ⌜ Left (now (state .entry)) (portRead (view (now (state .entry))) port .chip) (spare (now (state .entry))) (now (state .exit)) ⌝ }
+{
+    if state.len() != STATE {
+        return 65535;
+    }
+    let g = read_in(state, port);
+    let answer = g.answer;
+    word(number(answer), g.value)
 }

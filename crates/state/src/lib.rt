@@ -13,6 +13,7 @@ ghost use Rattle.chip.specs.Names.{register, locked as lockedOf, received, port
 ghost use Rattle.chip.specs.Palette.{byMode, coloured, aimed, held, moved, loaded, palstate as palstateOf, paldata as paldataOf};
 ghost use Rattle.state.specs.Layout.{start, whole, view, spare, regionOf, slotOf, placeOf, thirdOf, Holds};
 use registers::Group;
+use registers::locked_by;
 use registers::writable_now;
 use registers::write;
 
@@ -69,21 +70,12 @@ fn get(state: &[u8], g: Group, i: u8) -> u8
     state[at]
 }
 
-// Whether a group's registers are under a lock: CR11 bit 7 for CR.
+// Whether a group's registers are under a lock.
 fn locked(state: &[u8], g: Group) -> bool
     requires { ⌜ length (now state) ≡ whole ⌝ }
     ensures { λ r. ⌜ r ≡ lockedOf g (named (view (now (state .entry)))) ⌝ }
 {
-    match g {
-        Group::Cr => get(state, Group::Cr, 0x11) / 128 % 2 == 1,
-        Group::Sr => false,
-        Group::Gr => false,
-        Group::Xr => false,
-        Group::Fr => false,
-        Group::Mr => false,
-        Group::Msr => false,
-        Group::Palmask => false,
-    }
+    locked_by(g, get(state, Group::Cr, 0x11))
 }
 
 // A register receives a byte, by name.

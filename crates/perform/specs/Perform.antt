@@ -1,0 +1,26 @@
+-- A script file played on lent bytes: what is answered, what is left of the buffer, and what it means by name. What is left of the
+-- state is said by `Left` (crate `state`) of the chip that crate `play`'s definition gives. Demand 3, and document 01, "Scripts".
+use Prim.Native.Nat.{ℕ}
+use mathlib.Core.Path.{_≡_}
+use mathlib.Core.Bool.{cond}
+use mathlib.Core.List.{List}
+use lib.ListN.{length}
+use Rattle.commands.specs.Translation.{translated, leftBy}
+use Rattle.play.specs.Played.{played, ByName}
+use Rattle.play.specs.declared.Outcome.{Outcome}
+use Rattle.state.specs.Layout.{whole, view}
+use Rattle.state.specs.Accesses.{isState}
+use Rattle.perform.specs.declared.Performed.{Performed}
+use Rattle.perform.specs.declared.Performed.the-variants.{Met, Length}
+
+-- the answer: what became of the script, or that the bytes are no state
+abbrev pub performAnswer : List ℕ → List ℕ → ℕ → Performed
+performAnswer l file room = cond (isState l) (Met (played (view l) file room .outcome)) Length
+
+-- the buffer: the commands of an accepted file stand in it, and bytes that are no state leave it alone
+abbrev pub bufferLeft : List ℕ → List ℕ → List ℕ → List ℕ
+bufferLeft l file buffer = cond (isState l) (leftBy (translated file (length buffer)) file buffer) buffer
+
+-- by name: what became of the script, and the chip that the bytes hold now, are what crate `play` promises of the chip that they held
+pub record ByNameIn (l file : List ℕ) (room : ℕ) (m : List ℕ) (r : Performed) : Type 0 where
+  pub byName : length l ≡ whole → (o : Outcome) → r ≡ Met o → ByName (view l) file room (record { chip = view m; outcome = o })

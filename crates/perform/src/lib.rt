@@ -1,0 +1,44 @@
+// A script file played on lent bytes: translated into a lent buffer, and its commands run in place. The text is
+// that of crate `play`, whose definition it meets on the chip that the bytes hold; demand 3 is said of it too.
+ghost use mathlib.Core.Path.{_≡_};
+ghost use lib.ListN.{length};
+ghost use Rattle.play.specs.Played.{played};
+ghost use Rattle.state.specs.Layout.{view, spare};
+ghost use Rattle.state.specs.Accesses.{Left};
+ghost use Rattle.perform.specs.Perform.{performAnswer, bufferLeft, ByNameIn};
+use commands::Translated;
+use commands::translate;
+use drive::Driven;
+use drive::drive;
+use play::Outcome;
+use state::access::STATE;
+
+// What is answered.
+pub enum Performed {
+    // What became of the script.
+    Met(Outcome),
+    // The bytes are no state: their length is wrong.
+    Length,
+}
+
+// A script file on a state. The buffer is lent for the commands, 32 bytes a step.
+pub fn perform(state: &mut [u8], file: &[u8], buffer: &mut [u8]) -> Performed
+    ensures { λ r. ⌜ r ≡ performAnswer (now (state .entry)) (now (file .entry)) (length (now (buffer .entry))) ⌝ }
+    ensures { λ _. ⌜ Left (now (state .entry)) (played (view (now (state .entry))) (now (file .entry)) (length (now (buffer .entry))) .chip) (spare (now (state .entry))) (now (state .exit)) ⌝ }
+    ensures { λ r. ⌜ ByNameIn (now (state .entry)) (now (file .entry)) (length (now (buffer .entry))) (now (state .exit)) r ⌝ }
+    ensures { λ _. ⌜ now (buffer .exit) ≡ bufferLeft (now (state .entry)) (now (file .entry)) (now (buffer .entry)) ⌝ }
+{
+    if state.len() != STATE {
+        return Performed::Length;
+    }
+    match translate(file, buffer) {
+        Translated::Refused(why) => Performed::Met(Outcome::NotPlayed(why)),
+        Translated::Commands(k) => {
+            let end = 4 * k;
+            match drive(state, &buffer[..end], k) {
+                Driven::Ran(n, e) => Performed::Met(Outcome::Played(n, e)),
+                Driven::Length => Performed::Length,
+            }
+        }
+    }
+}

@@ -1,0 +1,20 @@
+-- The answers on lent bytes in numbers: document 01's ("Numbers returned"), and 255 for bytes that are no state, which document 01
+-- does not have. A byte that is read comes as 256 times the number plus the byte.
+use Prim.Native.Nat.{ℕ, _+_, _*_}
+use Rattle.chip.specs.Access.{numberOf}
+use Rattle.state.specs.declared.access.Written.{Written}
+use Rattle.state.specs.declared.access.Written.the-variants.{Answered as WriteAnswered, Length as WriteLength}
+use Rattle.state.specs.declared.access.Seen.{Seen}
+use Rattle.state.specs.declared.access.Seen.the-variants.{Answered as ReadAnswered, Length as ReadLength}
+
+-- bytes that are no state
+abbrev pub noState : ℕ
+noState = 255
+
+abbrev pub writeNumber : Written → ℕ
+writeNumber (WriteAnswered a) = numberOf a
+writeNumber WriteLength = noState
+
+abbrev pub readWord : Seen → ℕ
+readWord (ReadAnswered a v) = 256 * numberOf a + v
+readWord ReadLength = 256 * noState + 0xFF
