@@ -8,14 +8,17 @@ use native.Mathlib.Nat.{zero-mul, mul-le-mul-right, le-refl}
 use native.Mathlib.Omega.{arith}
 use lib.Dec.{leb, ltb, eqb}
 use borrow.Author.Tests.{le-leb, lt-leb, lt-ltb, le-ltb, leb-true, leb-false, ltb-true, ltb-false}
-use Rattle.raster.specs.Raster.{every, usesSource, usesPattern}
-use Rattle.raster.specs.Laws.{and-left, and-right, every-at, every-true, every-false}
+use Rattle.lists.specs.Scan.{every}
+use Rattle.lists.proofs.Scan.{every-all, every-false}
+use Rattle.lists.proofs.Tests.{and-both, both-and}
+use Rattle.raster.specs.Raster.{usesSource, usesPattern}
 use Rattle.blit.specs.declared.Area.{Area}
 use Rattle.blit.specs.declared.Transfer.{Transfer}
 use Rattle.blit.specs.Memory.{lengthAllowed}
 use Rattle.blit.specs.Transfer.{ahead, behind, place, within, everyByte, patternLine, patternPlace, inRange, inMemory}
+use Rattle.blit.specs.Numbers.{bytes-all, bytes-at, bytes-false}
 use Rattle.blit.specs.Working.{Ranges, Missing, moved, byteAt, lineLow}
-use Rattle.blit.proofs.Every.{both-ways, if-so}
+use Rattle.blit.proofs.Flags.{both-ways, if-so}
 
 -- ---- the two outermost bytes
 
@@ -54,7 +57,7 @@ module _ (n : ℕ) (t : Transfer) (a : Area) (hw : 1 ≤ t .width) (hh : 1 ≤ t
 
   all-in : behind t a H W ≤ a .address → a .address + ahead t a H W < n → everyByte t (within n t a) ≡ true
   all-in l u =
-      every-true (t .height) _ (λ r hr. every-true (t .width) _ (λ c hc.
+      bytes-all t (within n t a) (λ r c hr hc.
       let m : r * a .span ≤ H * a .span = mul-le-mul-right (a .span) (omega arith) in
       let p1 : cond (t .leftward) 0 c ≤ cond (t .leftward) 0 W = cond-mono (t .leftward) 0 c 0 W (le-refl 0) (omega arith) in
       let p2 : cond (t .upward) 0 (r * a .span) ≤ cond (t .upward) 0 (H * a .span) = cond-mono (t .upward) 0 (r * a .span) 0 (H * a .span) (le-refl 0) m in
@@ -62,7 +65,7 @@ module _ (n : ℕ) (t : Transfer) (a : Area) (hw : 1 ≤ t .width) (hh : 1 ≤ t
       let p4 : cond (t .upward) (r * a .span) 0 ≤ cond (t .upward) (H * a .span) 0 = cond-mono (t .upward) (r * a .span) 0 (H * a .span) 0 m (le-refl 0) in
       let lo : behind t a r c ≤ a .address + ahead t a r c = omega arith in
       let hi : place t a r c < n = omega arith in
-      ap₂ (λ (x y : Bool). x && y) (le-leb _ _ lo) (lt-ltb _ _ hi)))
+      both-and (le-leb _ _ lo) (lt-ltb _ _ hi))
 
   below-zero : a .address < behind t a H W → everyByte t (within n t a) ≡ false
   below-zero l =
@@ -75,8 +78,7 @@ module _ (n : ℕ) (t : Transfer) (a : Area) (hw : 1 ≤ t .width) (hh : 1 ≤ t
       let p3 = back-in (λ x. x) refl (t .leftward) W in
       let p4 = back-in (λ x. x * a .span) (zero-mul (a .span)) (t .upward) H in
       let lo : a .address + ahead t a r c < behind t a r c = omega arith in
-      every-false (t .height) _ r hr
-      (every-false (t .width) _ c hc (ap (λ (x : Bool). x && ltb (place t a r c) n) (lt-leb _ _ lo)))
+      bytes-false t (within n t a) r c hr hc (ap (λ (x : Bool). x && ltb (place t a r c) n) (lt-leb _ _ lo))
 
   past-end : n ≤ a .address + ahead t a H W → everyByte t (within n t a) ≡ false
   past-end l =
@@ -89,9 +91,8 @@ module _ (n : ℕ) (t : Transfer) (a : Area) (hw : 1 ≤ t .width) (hh : 1 ≤ t
       let p3 = on-in (λ x. x) refl (t .leftward) W in
       let p4 = on-in (λ x. x * a .span) (zero-mul (a .span)) (t .upward) H in
       let hi : n ≤ place t a r c = omega arith in
-      every-false (t .height) _ r hr
-      (every-false (t .width) _ c hc
-      (ap (λ (x : Bool). leb (behind t a r c) (a .address + ahead t a r c) && x) (le-ltb _ _ hi) ∙ and-false (leb (behind t a r c) (a .address + ahead t a r c))))
+      bytes-false t (within n t a) r c hr hc
+      (ap (λ (x : Bool). leb (behind t a r c) (a .address + ahead t a r c) && x) (le-ltb _ _ hi) ∙ and-false (leb (behind t a r c) (a .address + ahead t a r c)))
 
   pub outermost : (leb (behind t a H W) (a .address) && ltb (a .address + ahead t a H W) n) ≡ everyByte t (within n t a)
   outermost =
@@ -129,14 +130,14 @@ low-fits true low w n h k = omega arith
 low-fits false low w n h k = omega arith
 
 module _ (n : ℕ) (t : Transfer) (a : Area) (hw : 1 ≤ t .width) (in-memory : everyByte t (within n t a) ≡ true) (r : ℕ) (hr : r < t .height) where
-  at : (c : ℕ) → c < t .width → within n t a r c ≡ true
-  at c hc = every-at (t .width) (within n t a r) (every-at (t .height) (λ r. every (t .width) (λ c. within n t a r c)) in-memory r hr) c hc
+  at : (c : ℕ) → c < t .width → (leb (behind t a r c) (a .address + ahead t a r c) ≡ true) × (ltb (place t a r c) n ≡ true)
+  at c hc = and-both _ _ (bytes-at t (within n t a) r c hr hc in-memory)
 
   low : (c : ℕ) → c < t .width → behind t a r c ≤ a .address + ahead t a r c
-  low c hc = leb-true _ _ (and-left (leb (behind t a r c) (a .address + ahead t a r c)) (ltb (place t a r c) n) (at c hc))
+  low c hc = leb-true _ _ (at c hc .0)
 
   high : (c : ℕ) → c < t .width → place t a r c < n
-  high c hc = ltb-true _ _ (and-right (leb (behind t a r c) (a .address + ahead t a r c)) (ltb (place t a r c) n) (at c hc))
+  high c hc = ltb-true _ _ (at c hc .1)
 
   pub line-back : cond (t .upward) (r * a .span) 0 ≤ a .address
   line-back = first-back (t .leftward) (t .upward) (a .address) (r * a .span) (low 0 hw)
@@ -157,9 +158,9 @@ module _ (n : ℕ) (t : Transfer) (a : Area) (hw : 1 ≤ t .width) (in-memory : 
 
 pub pattern-all : (n : ℕ) (t : Transfer) → t .pattern + 64 ≤ n → everyByte t (λ r c. ltb (patternPlace t r c) n) ≡ true
 pattern-all n t h =
-    every-true (t .height) _ (λ r hr. every-true (t .width) _ (λ c hc.
+    bytes-all t (λ r c. ltb (patternPlace t r c) n) (λ r c hr hc.
     let l : patternPlace t r c < n = omega arith in
-    lt-ltb _ _ l))
+    lt-ltb _ _ l)
 
 column : (l : Bool) (w k : ℕ) → k < w → cond l (w - 1 - cond l (w - 1 - k) k) (cond l (w - 1 - k) k) ≡ k
 column true w k h = omega arith
@@ -176,30 +177,32 @@ module _ (n : ℕ) (t : Transfer) (hw : 1 ≤ t .width) (in-memory : everyByte t
   pattern-at : (c : ℕ) → c < t .width → patternPlace t r c ≡ patternLine t r + byteAt (t .leftward) D (t .width) c % 8
   pattern-at c hc = ap (λ (x : ℕ). patternLine t r + x % 8) (place-at n t (t .destination) hw in-memory r hr c hc)
 
-  pub pattern-line-in : ((k : ℕ) → k < t .width → patternLine t r + (D + k) % 8 < n) → every (t .width) (λ c. ltb (patternPlace t r c) n) ≡ true
+  pub pattern-line-in : ((k : ℕ) → k < t .width → patternLine t r + (D + k) % 8 < n) → every (λ c. ltb (patternPlace t r c) n) 0 (t .width) ≡ true
   pattern-line-in h =
-      every-true (t .width) _ (λ c hc.
+      every-all _ 0 (t .width) (λ c c₀ hc₀.
+      let hc : c < t .width = omega arith in
       let l : patternPlace t r c < n = rw (pattern-at c hc) (h (cond (t .leftward) (t .width - 1 - c) c) (column-below (t .leftward) (t .width) c hc)) in
       lt-ltb _ _ l)
 
-  pub pattern-line-out : Missing n D (patternLine t r) (t .width) → every (t .width) (λ c. ltb (patternPlace t r c) n) ≡ false
+  pub pattern-line-out : Missing n D (patternLine t r) (t .width) → every (λ c. ltb (patternPlace t r c) n) 0 (t .width) ≡ false
   pattern-line-out g =
       let c = cond (t .leftward) (t .width - 1 - g .at) (g .at) in
       let hc : c < t .width = column-below (t .leftward) (t .width) (g .at) (g .used) in
       let l : n ≤ patternPlace t r c = rw (pattern-at c hc, column (t .leftward) (t .width) (g .at) (g .used)) (g .outside) in
-      every-false (t .width) _ c hc (le-ltb _ _ l)
+      every-false _ 0 (t .width) c zero-le (omega arith) (le-ltb _ _ l)
 
 -- ---- a transfer whose numbers are in range, and that is in memory
 
 all-seven : (a b c d e f g : Bool) → a && b && c && d && e && f && g ≡ true
     → (a ≡ true) × (b ≡ true) × (c ≡ true) × (d ≡ true)
 all-seven a b c d e f g h =
-    let h6 = and-left (a && b && c && d && e && f) g h in
-    let h5 = and-left (a && b && c && d && e) f h6 in
-    let h4 = and-left (a && b && c && d) e h5 in
-    let h3 = and-left (a && b && c) d h4 in
-    let h2 = and-left (a && b) c h3 in
-    (and-left a b h2, and-right a b h2, and-right (a && b) c h3, and-right (a && b && c) d h4)
+    let h6 = and-both _ g h .0 in
+    let h5 = and-both _ f h6 .0 in
+    let h4 = and-both _ e h5 .0 in
+    let h3 = and-both _ d h4 in
+    let h2 = and-both _ c (h3 .0) in
+    let h1 = and-both a b (h2 .0) in
+    (h1 .0, h1 .1, h2 .1, h3 .1)
 
 pub ranges : (t : Transfer) → inRange t ≡ true → Ranges t
 unfolding inRange
@@ -210,27 +213,23 @@ ranges t e =
 
 pub allowed : (n : ℕ) → lengthAllowed n ≡ true → (4096 ≤ n) × (n ≤ 2097152)
 allowed n e =
-    let h = and-left (leb 4096 n && leb n 2097152) (eqb (n % 4) 0) e in
-    (leb-true _ _ (and-left (leb 4096 n) (leb n 2097152) h), leb-true _ _ (and-right (leb 4096 n) (leb n 2097152) h))
+    let h = and-both (leb 4096 n) (leb n 2097152) (and-both _ (eqb (n % 4) 0) e .0) in
+    (leb-true _ _ (h .0), leb-true _ _ (h .1))
 
 module _ (n : ℕ) (t : Transfer) (h : inMemory n t ≡ true) where
-  first-two : everyByte t (within n t (t .destination)) && (not (usesSource (t .code)) || everyByte t (within n t (t .source))) ≡ true
+  first-two : (everyByte t (within n t (t .destination)) ≡ true) × (not (usesSource (t .code)) || everyByte t (within n t (t .source)) ≡ true)
   unfolding inMemory
-  first-two = and-left _ (not (usesPattern (t .code)) || everyByte t (λ r c. ltb (patternPlace t r c) n)) h
+  first-two = and-both _ _ (and-both _ _ h .0)
 
   pub destination-in : everyByte t (within n t (t .destination)) ≡ true
-  destination-in = and-left (everyByte t (within n t (t .destination))) (not (usesSource (t .code)) || everyByte t (within n t (t .source))) first-two
+  destination-in = first-two .0
 
   pub source-in : usesSource (t .code) ≡ true → everyByte t (within n t (t .source)) ≡ true
-  source-in =
-      if-so (usesSource (t .code)) (everyByte t (within n t (t .source)))
-      (and-right (everyByte t (within n t (t .destination))) (not (usesSource (t .code)) || everyByte t (within n t (t .source))) first-two)
+  source-in = if-so (usesSource (t .code)) _ (first-two .1)
 
   pub pattern-in : usesPattern (t .code) ≡ true → everyByte t (λ r c. ltb (patternPlace t r c) n) ≡ true
   unfolding inMemory
-  pattern-in =
-      if-so (usesPattern (t .code)) (everyByte t (λ r c. ltb (patternPlace t r c) n))
-      (and-right (everyByte t (within n t (t .destination)) && (not (usesSource (t .code)) || everyByte t (within n t (t .source)))) _ h)
+  pattern-in = if-so (usesPattern (t .code)) _ (and-both (everyByte t (within n t (t .destination)) && (not (usesSource (t .code)) || everyByte t (within n t (t .source)))) _ h .1)
 
 -- an address moved is at most both together
 pub moved-most : (b : Bool) (a x : ℕ) → moved b a x ≤ a + x

@@ -8,13 +8,13 @@ use native.Mathlib.Omega.{arith}
 use lib.Dec.{ltb}
 use lib.ListN.{getD}
 use borrow.Author.Tests.{ltb-true}
-use Rattle.raster.specs.Raster.{every, usesSource, usesPattern}
-use Rattle.raster.specs.Laws.{every-at}
+use Rattle.raster.specs.Raster.{usesSource, usesPattern}
 use Rattle.blit.specs.declared.Transfer.{Transfer}
 use Rattle.blit.specs.Transfer.{place, patternLine, patternPlace, byteDone, inTurn, lineDone, inMemory}
+use Rattle.blit.specs.Numbers.{bytes-at}
 use Rattle.blit.specs.Turns.{in-turn-same}
 use Rattle.blit.specs.Working.{Ranges, byteAt, lineByte, lineLow, sourceLow, patternLow}
-use Rattle.blit.proofs.Every.{on}
+use Rattle.blit.proofs.Flags.{on}
 use Rattle.blit.proofs.Parts.{when}
 use Rattle.blit.proofs.Areas.{place-at, line-fits, destination-in, source-in, pattern-in}
 
@@ -37,7 +37,7 @@ module _ (n : ℕ) (t : Transfer) (rs : Ranges t) (least : 4096 ≤ n) (ok : inM
   pattern-fits c hc =
       on (λ (b : Bool). cond b (patternLine t r) 0 + byteAt (t .leftward) D (t .width) c % 8 < n) (usesPattern (t .code))
       (λ e.
-      let h : patternPlace t r c < n = ltb-true _ _ (every-at (t .width) (λ c. ltb (patternPlace t r c) n) (every-at (t .height) (λ r. every (t .width) (λ c. ltb (patternPlace t r c) n)) (pattern-in n t ok e) r hr) c hc) in
+      let h : patternPlace t r c < n = ltb-true _ _ (bytes-at t (λ r c. ltb (patternPlace t r c) n) r c hr hc (pattern-in n t ok e)) in
       rw (destination-at c hc) at h)
       (λ e. omega arith)
 

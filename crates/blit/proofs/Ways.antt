@@ -4,10 +4,11 @@
 use mathlib.Core.Path.{_≡_, refl, sym, ap, _∙_}
 use mathlib.Core.Bool.{Bool, true, false, cond, not, _&&_, true≢false}
 use mathlib.Core.List.{List}
-use mathlib.Core.Logic.{_⊎_, inl, inr, ⊎-elim}
+use mathlib.Core.Logic.{inl, inr, ⊎-elim}
 use Prim.Native.Nat.{ℕ, _+_, _-_, _%_, _≤_, _<_}
 use native.Mathlib.Omega.{arith}
 use lib.ListN.{length, getD}
+use Rattle.lists.specs.Scan.{every}
 use Rattle.raster.specs.Raster.{raster, usesSource}
 use Rattle.raster.specs.Laws.{CCh-source, raster-no-source}
 use Rattle.blit.specs.Transfer.{inTurn}
@@ -53,7 +54,7 @@ module _ (code : ℕ) (source pattern left : Bool) (d s p w : ℕ) (m m′ : Lis
 
   pub copied : code ≡ 0xCC → ((k : ℕ) → k < w → getD m (s + k) 0 < 256) → Part d (bytesFrom s m) 0 w m m′
       → m′ ≡ inTurn w (lineByte code source pattern left d s p w) m
-  unfolding usesSource
+  unfolding every usesSource
   copied e small P =
       let so : source ≡ true = su ∙ ap usesSource e in
       by-bytes (bytesFrom s m) (λ k h. rw (so, e) (sym (CCh-source _ (getD m (s + k) 0) (getD m (d + k) 0) (small k h)))) P

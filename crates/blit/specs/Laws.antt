@@ -1,21 +1,24 @@
 -- Laws that show the definition of a transfer to be the right one: what it leaves alone; what it does not look at; and what each
 -- byte becomes where none is written twice or read after it was written. The numbers' laws are in Numbers. Assumes nothing.
 use mathlib.Core.Path.{_≡_, refl, sym, ap, ap₂, _∙_}
-use mathlib.Core.Bool.{Bool, true, false, cond, not, _&&_, _||_, false≢true}
+use mathlib.Core.Bool.{Bool, true, false, cond, _&&_, false≢true}
 use mathlib.Core.List.{List}
 use mathlib.Core.Logic.{_≢_}
 use Prim.Native.Nat.{ℕ, _+_, _<_}
 use native.Mathlib.Omega.{arith}
-use lib.Dec.{leb, ltb}
+use lib.Dec.{leb}
 use lib.ListN.{length, getD, set, length-set}
 use lib.Seq.{getD-set-same, getD-set-other, set-getD}
 use borrow.Author.Tests.{ltb-true}
-use Rattle.raster.specs.Raster.{raster, every, usesSource, usesPattern}
-use Rattle.raster.specs.Laws.{and-left, and-right, every-at, AAh-destination, CCh-source}
+use Rattle.lists.specs.Scan.{every}
+use Rattle.lists.proofs.Tests.{and-both}
+use Rattle.raster.specs.Raster.{raster, usesSource, usesPattern}
+use Rattle.raster.specs.Laws.{AAh-destination, CCh-source}
 use Rattle.blit.specs.declared.Area.{Area}
 use Rattle.blit.specs.declared.Transfer.{Transfer}
 use Rattle.blit.specs.Memory.{lengthAllowed}
 use Rattle.blit.specs.Transfer.{ahead, behind, place, patternPlace, patternByte, sourceByte, destinationByte, byteDone, inTurn, lineDone, linesDone, inRange, everyByte, within, inMemory, accepted, transferAnswer, transferred}
+use Rattle.blit.specs.Numbers.{bytes-at}
 use Rattle.blit.specs.Turns.{in-turn-keeps, in-turn-still, in-turn-same, in-turn-at}
 
 -- ---- what a transfer leaves alone
@@ -121,7 +124,7 @@ module _ (m : List ℕ) (t : Transfer) where
 
   -- F0h looks at no source
   pub F0h-no-source : t .code ≡ 0xF0 → (a : Area) → (transferAnswer m (withSource a t) ≡ transferAnswer m t) × (transferred m (withSource a t) ≡ transferred m t)
-  unfolding usesSource
+  unfolding every usesSource
   F0h-no-source e a = let u : usesSource (t .code) ≡ false = ap usesSource e in (source-not-looked-at u a, source-changes-nothing u a)
 
 -- ---- what each byte becomes
@@ -165,11 +168,9 @@ module _ (m : List ℕ) (t : Transfer) (ok : accepted m t ≡ true) (once : Once
   in-place : place t (t .destination) r c < length m
   unfolding inMemory
   in-place =
-      let g = and-right (lengthAllowed (length m) && inRange t) (inMemory (length m) t) ok in
-      let d = and-left (everyByte t (within (length m) t (t .destination))) (not (usesSource (t .code)) || everyByte t (within (length m) t (t .source)))
-      (and-left (everyByte t (within (length m) t (t .destination)) && (not (usesSource (t .code)) || everyByte t (within (length m) t (t .source)))) (not (usesPattern (t .code)) || everyByte t (λ r c. ltb (patternPlace t r c) (length m))) g) in
-      let w = every-at (t .width) (within (length m) t (t .destination) r) (every-at (t .height) (λ r. every (t .width) (λ c. within (length m) t (t .destination) r c)) d r hr) c hc in
-      ltb-true _ _ (and-right (leb (behind t (t .destination) r c) (t .destination .address + ahead t (t .destination) r c)) (ltb (place t (t .destination) r c) (length m)) w)
+      let g = and-both (lengthAllowed (length m) && inRange t) _ ok .1 in
+      let d = and-both (everyByte t (within (length m) t (t .destination))) _ (and-both _ _ g .0) .0 in
+      ltb-true _ _ (and-both (leb (behind t (t .destination) r c) (t .destination .address + ahead t (t .destination) r c)) _ (bytes-at t (within (length m) t (t .destination)) r c hr hc d) .1)
 
   -- where no byte is written twice or read after it was written, each destination byte becomes the raster byte of the memory as it was
   pub byte-becomes : getD (transferred m t) (place t (t .destination) r c) 0 ≡ raster (t .code) (patternByte t r c m) (sourceByte t r c m) (destinationByte t r c m)
@@ -195,7 +196,7 @@ module _ (m : List ℕ) (t : Transfer) (ok : accepted m t ≡ true) (once : Once
 -- code CCh between areas that do not overlap copies
 pub CCh-copies : (m : List ℕ) (t : Transfer) → t .code ≡ 0xCC → ((x : ℕ) → getD m x 0 < 256) → accepted m t ≡ true → Once t → NotOf t (place t (t .source))
     → (r c : ℕ) → r < t .height → c < t .width → getD (transferred m t) (place t (t .destination) r c) 0 ≡ getD m (place t (t .source) r c) 0
-unfolding usesSource usesPattern
+unfolding every usesSource usesPattern
 CCh-copies m t e small ok once apart r c hr hc =
     let s : usesSource (t .code) ≡ true = ap usesSource e in
     let p : usesPattern (t .code) ≡ false = ap usesPattern e in

@@ -1,23 +1,39 @@
 -- Each number of a transfer is given exactly when document 01, "Numbers returned", says: 3, then 5, then 4, which is exact in both
--- directions. Assumes nothing.
-use mathlib.Core.Path.{_≡_, refl, ap}
+-- directions. Before that the laws of a test of every byte. Assumes nothing.
+use mathlib.Core.Path.{_≡_, refl, sym, ap, _∙_}
 use mathlib.Core.Bool.{Bool, true, false, cond, not, _&&_, _||_, and-false, false≢true, true≢false}
 use mathlib.Core.List.{List}
 use mathlib.Core.Logic.{_↔_}
-use Prim.Native.Nat.{ℕ, zero, suc, _≤_, _<_}
-use native.Mathlib.Nat.{le-refl}
+use Prim.Native.Nat.{ℕ, _≤_, _<_, zero-le}
+use native.Mathlib.Decide.{ℕ-discrete}
 use native.Mathlib.Omega.{arith}
 use lib.Dec.{ltb}
 use lib.ListN.{length}
 use borrow.Author.Tests.{ltb-false, le-ltb, eqb-false}
-use Rattle.raster.specs.Raster.{every, usesSource, usesPattern}
-use Rattle.raster.specs.Laws.{and-left, every-false}
+use Rattle.lists.specs.Scan.{firstNot, every}
+use Rattle.lists.proofs.Scan.{first-le, end-first, first-fails, every-all, every-at, every-false}
+use Rattle.raster.specs.Raster.{usesSource, usesPattern}
 use Rattle.blit.specs.declared.Transfer.{Transfer}
 use Rattle.blit.specs.declared.Answer.{Answer}
 use Rattle.blit.specs.declared.Answer.the-variants.{Done, Refused}
 use Rattle.blit.specs.declared.Refusal.the-variants.{Length, Range, Outside}
 use Rattle.blit.specs.Memory.{lengthAllowed, answerNumber}
 use Rattle.blit.specs.Transfer.{patternPlace, inRange, everyByte, within, inMemory, accepted, transferAnswer, transferred}
+
+-- ---- a test of every byte
+
+module _ (t : Transfer) (f : ℕ → ℕ → Bool) where
+  pub bytes-all : ((r c : ℕ) → r < t .height → c < t .width → f r c ≡ true) → everyByte t f ≡ true
+  bytes-all h = every-all _ 0 (t .height) (λ r r₀ hr. every-all (f r) 0 (t .width) (λ c c₀ hc. h r c (omega arith) (omega arith)))
+
+  module _ (r c : ℕ) (hr : r < t .height) (hc : c < t .width) where
+    pub bytes-at : everyByte t f ≡ true → f r c ≡ true
+    bytes-at e = every-at (f r) 0 (t .width) (every-at (λ r. every (f r) 0 (t .width)) 0 (t .height) e r zero-le (omega arith)) c zero-le (omega arith)
+
+    pub bytes-false : f r c ≡ false → everyByte t f ≡ false
+    bytes-false e = every-false _ 0 (t .height) r zero-le (omega arith) (every-false (f r) 0 (t .width) c zero-le (omega arith) e)
+
+-- ---- when each number is given
 
 -- a byte that the transfer uses lies outside the n bytes of memory: the destination's always count, the source's and the
 -- pattern's only if the code depends on them
@@ -31,16 +47,13 @@ record Fails (n : ℕ) (f : ℕ → Bool) : Type 0 where
   below : at < n
   fails : f at ≡ false
 
-fails-more : (n : ℕ) (f : ℕ → Bool) (b : Bool) → f n ≡ b → b && every n f ≡ false → (every n f ≡ false → Fails n f) → Fails (suc n) f
-fails-more n f false q e g = record { at = n; below = le-refl (suc n); fails = q }
-fails-more n f true q e g = let w = g e in record { at = w .at; below = omega (arith, w .below); fails = w .fails }
-
-one-fails : (n : ℕ) (f : ℕ → Bool) → every n f ≡ false → Fails n f
-one-fails zero f e = absurd (true≢false e)
-one-fails (suc n) f e = fails-more n f (f n) refl e (one-fails n f)
-
-byte-fails : (t : Transfer) (f : ℕ → ℕ → Bool) (r c : ℕ) → r < t .height → c < t .width → f r c ≡ false → everyByte t f ≡ false
-byte-fails t f r c hr hc e = every-false (t .height) _ r hr (every-false (t .width) _ c hc e)
+-- where a test does not hold at every place there is one at which it fails: that of `firstNot`
+one-fails : (n : ℕ) (f : ℕ → Bool) → every f 0 n ≡ false → Fails n f
+one-fails n f e = go (ℕ-discrete (firstNot f 0 n) n)
+  where
+    go : Dec (firstNot f 0 n ≡ n) → Fails n f
+    go (yes w) = absurd (true≢false (sym (every-all f 0 n (λ p l h. end-first f n w p (omega arith))) ∙ e))
+    go (no w) = let h : firstNot f 0 n < n = omega (arith, first-le f 0 n) in record { at = firstNot f 0 n; below = h; fails = first-fails f n h }
 
 -- the three tests of `inMemory`, and which of them fails
 three : (a s b p c : Bool) (X : Type 0) → a && (not s || b) && (not p || c) ≡ false → (a ≡ false → X) → (s ≡ true → b ≡ false → X) → (p ≡ true → c ≡ false → X) → X
@@ -62,11 +75,11 @@ outside-found n t e =
 
 outside-counts : (n : ℕ) (t : Transfer) → UsedOutside n t → inMemory n t ≡ false
 unfolding inMemory
-outside-counts n t (destination r c hr hc e) = rw (byte-fails t (within n t (t .destination)) r c hr hc e)
+outside-counts n t (destination r c hr hc e) = rw (bytes-false t (within n t (t .destination)) r c hr hc e)
 outside-counts n t (source u r c hr hc e) =
-    rw (byte-fails t (within n t (t .source)) r c hr hc e, u) (ap (λ (b : Bool). b && (not (usesPattern (t .code)) || everyByte t (λ r c. ltb (patternPlace t r c) n))) (and-false (everyByte t (within n t (t .destination)))))
+    rw (bytes-false t (within n t (t .source)) r c hr hc e, u) (ap (λ (b : Bool). b && (not (usesPattern (t .code)) || everyByte t (λ r c. ltb (patternPlace t r c) n))) (and-false (everyByte t (within n t (t .destination)))))
 outside-counts n t (pattern u r c hr hc l) =
-    rw (byte-fails t (λ r c. ltb (patternPlace t r c) n) r c hr hc (le-ltb _ _ l), u)
+    rw (bytes-false t (λ r c. ltb (patternPlace t r c) n) r c hr hc (le-ltb _ _ l), u)
     (and-false (everyByte t (within n t (t .destination)) && (not (usesSource (t .code)) || everyByte t (within n t (t .source)))))
 
 -- how the tests lead to the answer
@@ -96,8 +109,8 @@ answer-4 true true true = (λ e. absurd (eqb-false 0 4 refl e), λ e. absurd (tr
 
 answer-0 : (l r i : Bool) → (answerNumber (answer l r i) ≡ 0) ↔ (l && r && i ≡ true)
 unfolding answer
-answer-0 false r i = (λ e. absurd (eqb-false 3 0 refl e), λ e. absurd (false≢true (and-left false r (and-left (false && r) i e))))
-answer-0 true false i = (λ e. absurd (eqb-false 5 0 refl e), λ e. absurd (false≢true (and-left false i e)))
+answer-0 false r i = (λ e. absurd (eqb-false 3 0 refl e), λ e. absurd (false≢true e))
+answer-0 true false i = (λ e. absurd (eqb-false 5 0 refl e), λ e. absurd (false≢true e))
 answer-0 true true false = (λ e. absurd (eqb-false 4 0 refl e), λ e. absurd (false≢true e))
 answer-0 true true true = (λ e. refl, λ e. refl)
 

@@ -5,6 +5,7 @@ use mathlib.Core.Path.{_≡_, refl}
 use mathlib.Core.Bool.{Bool, true, false}
 use mathlib.Core.List.{List, [], _∷_}
 use lib.ListN.{take, replicate}
+use Rattle.lists.specs.Scan.{every}
 use Rattle.raster.specs.Raster.{number, raster, usesSource, usesPattern}
 use Rattle.blit.specs.declared.Transfer.{Transfer}
 use Rattle.blit.specs.Memory.{answerNumber}
@@ -34,18 +35,18 @@ unfolding raster number
 case-8 = refl
 
 pub case-9 : take 5 (transferred oneToFive (oneLine 0xCC false 4 0 1)) ≡ 1 ∷ 1 ∷ 1 ∷ 1 ∷ 1 ∷ []
-unfolding raster number usesSource usesPattern byteDone inTurn lineDone linesDone inRange inMemory transferred oneLine oneToFive
+unfolding every raster number usesSource usesPattern byteDone inTurn lineDone linesDone inRange inMemory transferred oneLine oneToFive
 case-9 = refl
 
 pub case-10 : take 5 (transferred oneToFive (oneLine 0xCC true 4 3 4)) ≡ 1 ∷ 1 ∷ 2 ∷ 3 ∷ 4 ∷ []
-unfolding raster number usesSource usesPattern byteDone inTurn lineDone linesDone inRange inMemory transferred oneLine oneToFive
+unfolding every raster number usesSource usesPattern byteDone inTurn lineDone linesDone inRange inMemory transferred oneLine oneToFive
 case-10 = refl
 
 -- width 1 is done, width 2 is number 4
 pub case-11 : answerNumber (transferAnswer (replicate 4096 0) (oneLine 0xF0 false 1 0 4095)) ≡ 0
-unfolding usesSource usesPattern inRange inMemory transferAnswer oneLine
+unfolding every usesSource usesPattern inRange inMemory transferAnswer oneLine
 case-11 = refl
 
 pub case-11-wide : answerNumber (transferAnswer (replicate 4096 0) (oneLine 0xF0 false 2 0 4095)) ≡ 4
-unfolding usesSource usesPattern inRange inMemory transferAnswer oneLine
+unfolding every usesSource usesPattern inRange inMemory transferAnswer oneLine
 case-11-wide = refl

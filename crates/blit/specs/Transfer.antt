@@ -6,7 +6,8 @@ use mathlib.Core.Bool.{Bool, cond, not, _&&_, _||_}
 use mathlib.Core.List.{List}
 use lib.ListN.{length, getD, set}
 use lib.Dec.{leb, ltb, eqb}
-use Rattle.raster.specs.Raster.{raster, every, usesSource, usesPattern}
+use Rattle.lists.specs.Scan.{every}
+use Rattle.raster.specs.Raster.{raster, usesSource, usesPattern}
 use Rattle.blit.specs.declared.Area.{Area}
 use Rattle.blit.specs.declared.Transfer.{Transfer}
 use Rattle.blit.specs.declared.Answer.{Answer}
@@ -72,8 +73,9 @@ inRange t =
     && (not (usesSource (t .code)) || leb (t .source .span) 8191)
     && (not (usesPattern (t .code)) || (leb (t .row) 7 && eqb (t .pattern % 64) 0))
 
+-- the test holds at each byte c of each line r
 abbrev pub everyByte : Transfer → (ℕ → ℕ → Bool) → Bool
-everyByte t f = every (t .height) (λ r. every (t .width) (λ c. f r c))
+everyByte t f = every (λ r. every (f r) 0 (t .width)) 0 (t .height)
 
 -- byte c of line r lies in the n bytes of memory
 abbrev pub within : ℕ → Transfer → Area → ℕ → ℕ → Bool

@@ -133,3 +133,11 @@ every-at t i (suc n) e p hp hq =
     go : Dec (i ≡ p) → t i ≡ true → (i + 1 ≤ p → t p ≡ true) → t p ≡ true
     go (yes w) here later = ap t (sym w) ∙ here
     go (no w) here later = later (omega arith)
+
+-- it does not hold at each where it fails at one
+pub every-false : (t : ℕ → Bool) (i n p : ℕ) → i ≤ p → p < i + n → t p ≡ false → every t i n ≡ false
+every-false t i n p hp hq e = go (every t i n) refl
+  where
+    go : (b : Bool) → every t i n ≡ b → b ≡ false
+    go true w = sym (every-at t i n w p hp hq) ∙ e
+    go false w = refl

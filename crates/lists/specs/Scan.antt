@@ -1,6 +1,7 @@
 -- Going through places in order: the first at which a test fails, and whether it holds at every one.
 -- "The first offending one is given" (document 01, Numbers returned) is said with `firstNot`, and "unused
--- places are zero" (Scripts) with `every`. Their laws are in proofs/Scan.
+-- places are zero" (Scripts), what a raster code depends on and which bytes of a transfer lie in memory
+-- (Video memory and block transfers) with `every`. Their laws are in proofs/Scan.
 use Prim.Native.Nat.{ℕ, zero, suc, _+_}
 use mathlib.Core.Bool.{Bool, true, cond, _&&_}
 

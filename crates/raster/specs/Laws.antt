@@ -1,47 +1,24 @@
 -- Laws of the raster code: each bit of the result is the code's; the codes that give one operand (AAh the destination, CCh the
 -- source, F0h the pattern); an operand on which the code does not depend makes no difference. Assumes nothing.
 use mathlib.Core.Path.{_≡_, refl, sym, ap, ap₂, _∙_}
-use mathlib.Core.Bool.{Bool, true, false, _&&_, not, and-false, false≢true, Bool·beq}
-use mathlib.Core.Logic.{⊎-elim}
-use Prim.Native.Nat.{ℕ, zero, suc, _+_, _*_, _/_, _%_, _^_, _<_}
-use native.Mathlib.Nat.{mod-lt, pow-suc, mul-comm, div-one, div-div-eq-div-mul, not-suc-le-zero, le-refl, eq-or-lt-of-le, le-of-suc-le-suc}
+use mathlib.Core.Bool.{Bool, true, false, not, Bool·beq}
+use Prim.Native.Nat.{ℕ, zero, suc, _+_, _*_, _/_, _%_, _^_, _<_, zero-le}
+use native.Mathlib.Nat.{mod-lt, pow-suc, mul-comm, div-one, div-div-eq-div-mul, not-suc-le-zero, le-of-suc-le-suc}
 use native.Mathlib.Omega.{arith}
 use lib.Dec.{lit<, eqb}
 use borrow.Author.Tests.{eqb-true, not-false}
 use Rattle.lists.specs.Bits.{bit}
-use Rattle.raster.specs.Raster.{number, index, raster, every, usesSource, usesPattern}
+use Rattle.lists.specs.Scan.{every}
+use Rattle.lists.proofs.Scan.{every-at}
+use Rattle.raster.specs.Raster.{number, index, raster, usesSource, usesPattern}
 
--- ---- a test at each number below n
-
-pub and-left : (a b : Bool) → a && b ≡ true → a ≡ true
-and-left true b e = refl
-and-left false b e = e
-
-pub and-right : (a b : Bool) → a && b ≡ true → b ≡ true
-and-right true b e = e
-and-right false b e = absurd (false≢true e)
-
-pub every-at : (n : ℕ) (f : ℕ → Bool) → every n f ≡ true → (k : ℕ) → k < n → f k ≡ true
-every-at zero f e k h = absurd (not-suc-le-zero h)
-every-at (suc n) f e k h =
-    ⊎-elim (λ q. ap f q ∙ and-left (f n) (every n f) e) (λ l. every-at n f (and-right (f n) (every n f) e) k l) (eq-or-lt-of-le (le-of-suc-le-suc h))
-
-pub every-true : (n : ℕ) (f : ℕ → Bool) → ((k : ℕ) → k < n → f k ≡ true) → every n f ≡ true
-every-true zero f h = refl
-every-true (suc n) f h = rw (h n (le-refl (suc n))) (every-true n f (λ k l. h k (omega arith)))
-
-pub every-false : (n : ℕ) (f : ℕ → Bool) (k : ℕ) → k < n → f k ≡ false → every n f ≡ false
-every-false zero f k h e = absurd (not-suc-le-zero h)
-every-false (suc n) f k h e =
-    ⊎-elim (λ q. ap (λ (b : Bool). b && every n f) (sym (ap f q) ∙ e)) (λ l. rw (every-false n f k l e) (and-false (f n))) (eq-or-lt-of-le (le-of-suc-le-suc h))
+-- ---- bits
 
 -- what holds at 0 and at 1 holds at each bit
 pub two : (P : ℕ → Type 0) → P 0 → P 1 → (x : ℕ) → x < 2 → P x
 two P z o zero h = z
 two P z o (suc zero) h = o
 two P z o (suc (suc x)) h = absurd (omega arith)
-
--- ---- bits
 
 pub bit-small : (i x : ℕ) → bit i x < 2
 bit-small i x = mod-lt (x / 2 ^ i) (lit< tt)
@@ -101,33 +78,36 @@ raster-is code p s d x h e =
 
 -- a rule of the code's eight bits, tried at each of them
 rule : (code : ℕ) (f : ℕ → ℕ → ℕ → ℕ)
-    → every 2 (λ p. every 2 (λ s. every 2 (λ d. eqb (bit (index p s d) code) (f p s d)))) ≡ true
+    → every (λ p. every (λ s. every (λ d. eqb (bit (index p s d) code) (f p s d)) 0 2) 0 2) 0 2 ≡ true
     → (p s d : ℕ) → p < 2 → s < 2 → d < 2 → bit (index p s d) code ≡ f p s d
 rule code f e p s d hp hs hd =
     eqb-true _ _
-    (every-at 2 (λ d. eqb (bit (index p s d) code) (f p s d))
-    (every-at 2 (λ s. every 2 (λ d. eqb (bit (index p s d) code) (f p s d)))
-    (every-at 2 (λ p. every 2 (λ s. every 2 (λ d. eqb (bit (index p s d) code) (f p s d)))) e p hp) s hs) d hd)
+    (every-at (λ d. eqb (bit (index p s d) code) (f p s d)) 0 2
+    (every-at (λ s. every (λ d. eqb (bit (index p s d) code) (f p s d)) 0 2) 0 2
+    (every-at (λ p. every (λ s. every (λ d. eqb (bit (index p s d) code) (f p s d)) 0 2) 0 2) 0 2 e p zero-le hp) s zero-le hs) d zero-le hd)
 
 -- AAh gives the destination, CCh the source, F0h the pattern
 pub AAh-destination : (p s d : ℕ) → d < 256 → raster 0xAA p s d ≡ d
+unfolding every
 AAh-destination p s d h =
     raster-is 0xAA p s d d h (λ i l. rule 0xAA (λ p s d. d) refl (bit i p) (bit i s) (bit i d) (bit-small i p) (bit-small i s) (bit-small i d))
 
 pub CCh-source : (p s d : ℕ) → s < 256 → raster 0xCC p s d ≡ s
+unfolding every
 CCh-source p s d h =
     raster-is 0xCC p s d s h (λ i l. rule 0xCC (λ p s d. s) refl (bit i p) (bit i s) (bit i d) (bit-small i p) (bit-small i s) (bit-small i d))
 
 pub F0h-pattern : (p s d : ℕ) → p < 256 → raster 0xF0 p s d ≡ p
+unfolding every
 F0h-pattern p s d h =
     raster-is 0xF0 p s d p h (λ i l. rule 0xF0 (λ p s d. p) refl (bit i p) (bit i s) (bit i d) (bit-small i p) (bit-small i s) (bit-small i d))
 
 -- an operand on which the code does not depend makes no difference: x is that operand's bit, y and z the others'
-unused : (code : ℕ) (k : ℕ → ℕ → ℕ → ℕ) → every 2 (λ y. every 2 (λ z. eqb (bit (k 0 y z) code) (bit (k 1 y z) code))) ≡ true
+unused : (code : ℕ) (k : ℕ → ℕ → ℕ → ℕ) → every (λ y. every (λ z. eqb (bit (k 0 y z) code) (bit (k 1 y z) code)) 0 2) 0 2 ≡ true
     → (x x′ y z : ℕ) → x < 2 → x′ < 2 → y < 2 → z < 2 → bit (k x y z) code ≡ bit (k x′ y z) code
 unused code k e x x′ y z hx hx′ hy hz =
     let t : bit (k 0 y z) code ≡ bit (k 1 y z) code =
-    eqb-true _ _ (every-at 2 (λ z. eqb (bit (k 0 y z) code) (bit (k 1 y z) code)) (every-at 2 (λ y. every 2 (λ z. eqb (bit (k 0 y z) code) (bit (k 1 y z) code))) e y hy) z hz) in
+    eqb-true _ _ (every-at (λ z. eqb (bit (k 0 y z) code) (bit (k 1 y z) code)) 0 2 (every-at (λ y. every (λ z. eqb (bit (k 0 y z) code) (bit (k 1 y z) code)) 0 2) 0 2 e y zero-le hy) z zero-le hz) in
     let u : (x : ℕ) → x < 2 → bit (k x y z) code ≡ bit (k 0 y z) code = two (λ (x : ℕ). bit (k x y z) code ≡ bit (k 0 y z) code) refl (sym t) in
     u x hx ∙ sym (u x′ hx′)
 
@@ -145,12 +125,12 @@ raster-no-pattern code p p′ s d e =
 
 -- and one on which it depends does: at some operands of 00h and FFh the raster byte is another
 unfoldable pub seen : (ℕ → Bool) → (ℕ → ℕ → ℕ → ℕ → ℕ) → Bool
-seen uses f = every 256 (λ code. Bool·beq (uses code) (not (every 2 (λ x. every 2 (λ y. eqb (f code (255 * x) 0 (255 * y)) (f code (255 * x) 255 (255 * y)))))))
+seen uses f = every (λ code. Bool·beq (uses code) (not (every (λ x. every (λ y. eqb (f code (255 * x) 0 (255 * y)) (f code (255 * x) 255 (255 * y))) 0 2) 0 2))) 0 256
 
 pub source-seen : seen usesSource (λ code p s d. raster code p s d) ≡ true
-unfolding seen raster number usesSource
+unfolding every seen raster number usesSource
 source-seen = refl
 
 pub pattern-seen : seen usesPattern (λ code s p d. raster code p s d) ≡ true
-unfolding seen raster number usesPattern
+unfolding every seen raster number usesPattern
 pattern-seen = refl

@@ -1,9 +1,10 @@
 -- The raster code of document 01, "Video memory and block transfers", and of the databook's appendix E:
 -- for each bit, k = 4P + 2S + D and the result is bit k of the code. Also when a code depends on the source or the pattern.
 -- Bytes are numbers below 256. The laws of these definitions are in Laws.
-use Prim.Native.Nat.{ℕ, zero, suc, _+_, _*_, _/_, _%_, _^_}
-use mathlib.Core.Bool.{Bool, true, _&&_, not}
+use Prim.Native.Nat.{ℕ, zero, suc, _+_, _*_}
+use mathlib.Core.Bool.{Bool, not}
 use lib.Dec.{eqb}
+use Rattle.lists.specs.Scan.{every}
 use Rattle.lists.specs.Bits.{bit}
 
 -- the number of n bits whose bit i is f i
@@ -19,15 +20,10 @@ index p s d = 4 * p + 2 * s + d
 unfoldable pub raster : ℕ → ℕ → ℕ → ℕ → ℕ
 raster code p s d = number 8 (λ i. bit (index (bit i p) (bit i s) (bit i d)) code)
 
--- the test passes at each number below n
-abbrev pub every : ℕ → (ℕ → Bool) → Bool
-every zero f = true
-every (suc n) f = f n && every n f
-
 -- the code depends on the source: for some P and D it gives another bit with S = 0 than with S = 1
 unfoldable pub usesSource : ℕ → Bool
-usesSource code = not (every 2 (λ p. every 2 (λ d. eqb (bit (index p 0 d) code) (bit (index p 1 d) code))))
+usesSource code = not (every (λ p. every (λ d. eqb (bit (index p 0 d) code) (bit (index p 1 d) code)) 0 2) 0 2)
 
 -- the same of the pattern
 unfoldable pub usesPattern : ℕ → Bool
-usesPattern code = not (every 2 (λ s. every 2 (λ d. eqb (bit (index 0 s d) code) (bit (index 1 s d) code))))
+usesPattern code = not (every (λ s. every (λ d. eqb (bit (index 0 s d) code) (bit (index 1 s d) code)) 0 2) 0 2)

@@ -13,6 +13,7 @@ use Rattle.chip.specs.Access.{portWritten, portRead}
 use Rattle.chip.specs.Reset.{resetByte, filled, reset}
 use Rattle.raster.specs.Raster.{number, raster, usesSource, usesPattern}
 use Rattle.blit.specs.Transfer.{byteDone, inTurn, lineDone, linesDone, inRange, inMemory, transferred}
+use Rattle.lists.specs.Scan.{every}
 use Rattle.lists.specs.Tab.{tab}
 use Rattle.steps.specs.Step.{bytesOf}
 use Rattle.script.specs.Block.{wordSum}
@@ -22,5 +23,5 @@ use Rattle.commands.specs.Expansion.{ways, expanded}
 use Rattle.setups.specs.Setups.{setups, allHold}
 
 pub setups-hold : allHold setups ≡ true
-unfolding setups CR XR MR rowOf lockedBy leftOpen writableNow written ports target locked received portsOpen colour eightBit coloured loaded shown portWritten portRead resetByte filled reset number raster usesSource usesPattern byteDone inTurn lineDone linesDone inRange inMemory transferred tab bytesOf wordSum front blocksTo bytesOfAll ways expanded
+unfolding setups CR XR MR rowOf lockedBy leftOpen writableNow written ports target locked received portsOpen colour eightBit coloured loaded shown portWritten portRead resetByte filled reset number raster usesSource usesPattern byteDone inTurn lineDone linesDone inRange inMemory transferred every tab bytesOf wordSum front blocksTo bytesOfAll ways expanded
 setups-hold = refl

@@ -1,21 +1,26 @@
--- `blit::bounds::pattern_inside` meets its contract: each line passed has its pattern bytes in memory. Assumes nothing.
-use Prim.Native.Nat.{_-_, _≤_, _<_}
-use mathlib.Core.Path.{_≡_, refl, sym}
-use mathlib.Core.Bool.{true}
+-- `blit::bounds::pattern_inside` meets its contract. The loop's invariant: the answer from this line on is the whole answer.
+-- Assumes nothing.
+use Prim.Native.Nat.{ℕ, _-_, _<_}
+use mathlib.Core.Path.{_≡_, sym, _∙_}
+use mathlib.Core.Bool.{Bool}
 use lib.Dec.{ltb}
+use native.Mathlib.Nat.{sub-zero}
 use native.Mathlib.Omega.{arith}
 use borrow.Author.Needs.{needs}
 use borrow.Author.Tests.{not-true, not-false}
-use Rattle.raster.specs.Raster.{every}
-use Rattle.raster.specs.Laws.{every-false}
-use Rattle.blit.specs.Transfer.{patternPlace}
-use Rattle.blit.proofs.Every.{every-more}
+use Rattle.lists.specs.Scan.{every}
+use Rattle.lists.proofs.Scan.{every-more, every-stop, every-none}
+use Rattle.blit.specs.declared.Transfer.{Transfer}
+use Rattle.blit.specs.Transfer.{everyByte, patternPlace}
 use Rattle.blit.proofs.Areas.{line-back, low-back, line-fits, pattern-all, pattern-line-in, pattern-line-out}
 use Rattle.blit.proofs.bounds.pattern_inside.Statement.{statement}
 use Rattle.blit.proofs.bounds.pattern_inside.Tie as tie
 
+abbrev lineIn : ℕ → Transfer → ℕ → Bool
+lineIn n t r = every (λ c. ltb (patternPlace t r c) n) 0 (t .width)
+
 abbrev Inv-loop : tie.InvT-loop
-Inv-loop n t h w r₀ r = (r ≤ h) × (every r (λ r. every (t .width) (λ c. ltb (patternPlace t r c) n)) ≡ true)
+Inv-loop n t h w r₀ r = everyByte t (λ r c. ltb (patternPlace t r c) n) ≡ every (lineIn n t) r (t .height - r)
 
 abbrev μ-loop : tie.MeasureT-loop
 μ-loop n t h w r₀ r = h - r
@@ -51,7 +56,8 @@ returns-2 c =
     let r = c .before .before .before .before .before .loop .r in
     let hr : r < t .height = c .before .before .before .before .loop-test .taken in
     let gone = rw (c .before .before .before .line-low .ensures, c .before .before .pattern-line .ensures .0) at (c .before .pattern-line-inside .ensures .1 (not-true _ (c .if2 .taken))) in
-    sym (every-false (t .height) _ r hr (pattern-line-out (b .args .n) t (b .pre .0 .wide) (b .pre .1 .1) r hr gone))
+    sym (c .before .before .before .before .before .loop .inv
+    ∙ every-stop (lineIn (b .args .n) t) r (t .height) hr (pattern-line-out (b .args .n) t (b .pre .0 .wide) (b .pre .1 .1) r hr gone))
 
 loop-again : tie.Need-loop-again Inv-loop μ-loop
 loop-again c =
@@ -59,17 +65,15 @@ loop-again c =
     let t = b .args .t in
     let r = c .before .before .before .before .before .loop .r in
     let hr : r < t .height = c .before .before .before .before .loop-test .taken in
-    let here = rw (c .before .before .before .line-low .ensures, c .before .before .pattern-line .ensures .0) at (c .before .pattern-line-inside .ensures .0 (not-false _ (c .if2 .left))) in (
-      search needs,
-      every-more r (λ r. every (t .width) (λ c. ltb (patternPlace t r c) (b .args .n)))
-          (pattern-line-in (b .args .n) t (b .pre .0 .wide) (b .pre .1 .1) r hr here) (c .before .before .before .before .before .loop .inv .1),
-    )
+    let here = rw (c .before .before .before .line-low .ensures, c .before .before .pattern-line .ensures .0) at (c .before .pattern-line-inside .ensures .0 (not-false _ (c .if2 .left))) in
+    c .before .before .before .before .before .loop .inv
+    ∙ every-more (lineIn (b .args .n) t) r (t .height) hr (pattern-line-in (b .args .n) t (b .pre .0 .wide) (b .pre .1 .1) r hr here)
 
 -- every line passed
 returns-3 : tie.Need-returns-3 Inv-loop μ-loop
 returns-3 c =
-    let e : c .before .loop .r ≡ c .before .before .before .before .before .before .args .t .height = omega arith in
-    sym (rw e at (c .before .loop .inv .1))
+    let b = c .before .before .before .before .before .before in
+    sym (c .before .loop .inv ∙ every-none (lineIn (b .args .n) (b .args .t)) (c .before .loop .r) (b .args .t .height) (c .loop-test .left))
 
 pub pattern-inside-spec : {M : Type 1} → statement M
 pattern-inside-spec =
@@ -82,7 +86,7 @@ pattern-inside-spec =
     returns
     (λ c. search needs)
     (λ c. search needs)
-    (λ c. (search needs, refl))
+    (λ c. rw sub-zero)
     line-low-requires
     (λ c κs. search needs)
     pattern-line-inside-requires

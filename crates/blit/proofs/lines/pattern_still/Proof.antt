@@ -5,8 +5,8 @@ use Prim.Native.Nat.{_+_}
 use lib.Dec.{leb}
 use native.Mathlib.Omega.{arith}
 use borrow.Author.Tests.{leb-true}
-use Rattle.raster.specs.Laws.{and-left, and-right}
-use Rattle.blit.proofs.Every.{or-true}
+use Rattle.lists.proofs.Tests.{and-both}
+use Rattle.blit.proofs.Flags.{or-true}
 use Rattle.blit.proofs.lines.pattern_still.Statement.{statement}
 use Rattle.blit.proofs.lines.pattern_still.Tie as tie
 
@@ -17,9 +17,10 @@ returns c =
     let before = leb (a .p + 8) (a .d) in
     let after = leb (a .d + a .w) (a .p) in
     λ t.
+    let b = and-both whole (before || after) t in
     record {
-      whole = leb-true _ _ (and-left whole (before || after) t);
-      apart = ⊎-elim (λ q. inl (leb-true _ _ q)) (λ q. inr (leb-true _ _ q)) (or-true before after (and-right whole (before || after) t));
+      whole = leb-true _ _ (b .0);
+      apart = ⊎-elim (λ q. inl (leb-true _ _ q)) (λ q. inr (leb-true _ _ q)) (or-true before after (b .1));
     }
 
 pub pattern-still-spec : {M : Type 1} → statement M

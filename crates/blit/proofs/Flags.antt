@@ -1,14 +1,7 @@
--- One more number that passes a test, what a test made of two gives, and cases on a flag.
--- The other laws of `every` are the crate raster's. Assumes nothing.
+-- What a test made of two gives, and cases on a flag. Assumes nothing.
 use mathlib.Core.Path.{_≡_, refl}
 use mathlib.Core.Bool.{Bool, true, false, not, _||_, false≢true}
 use mathlib.Core.Logic.{_⊎_, inl, inr}
-use Prim.Native.Nat.{ℕ, _+_}
-use native.Mathlib.Numerals.{add-one}
-use Rattle.raster.specs.Raster.{every}
-
-pub every-more : (k : ℕ) (f : ℕ → Bool) → f k ≡ true → every k f ≡ true → every (k + 1) f ≡ true
-every-more k f e h = rw (add-one, e) h
 
 pub or-true : (a b : Bool) → a || b ≡ true → (a ≡ true) ⊎ (b ≡ true)
 or-true true b e = inl refl
