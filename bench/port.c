@@ -1,4 +1,4 @@
-// Nanoseconds a port access, through the library and on a plain C model, from one run.
+// Nanoseconds a port access, through the library and on a plain C model, from one run; and commands and scripts a second.
 //
 // The C model is a struct with a field to each part of the state and one switch on the port, with the writable bits in a table,
 // as emulators write it; it is compiled with -O3 and called as a function of its own, as the library is. Both work through the
@@ -225,6 +225,55 @@ static double timed(uint32_t (*way)(void), int turns) {
     return (now() - began) / turns / COUNT;
 }
 
+// ---- scripts
+
+enum { STEPS = 1008, BLOCKS = 12 };
+static uint8_t steps[6 * STEPS], file[512 * BLOCKS], room[32 * STEPS];
+
+static uint8_t checked(void) {
+    size_t value;
+    return chips69000_check_script(file, sizeof file, &value);
+}
+
+static uint8_t translated(void) {
+    size_t value;
+    return chips69000_translate_script(file, sizeof file, room, sizeof room, &value);
+}
+
+static uint8_t played(void) {
+    size_t count, value;
+    return chips69000_play(state, sizeof state, file, sizeof file, room, sizeof room, &count, &value);
+}
+
+// the longest script there is, of steps of every kind: how often a second it is checked, translated and played
+static int scripts(void) {
+    static const struct {
+        const char *name;
+        uint8_t (*way)(void);
+    } ways[] = {{"checked", checked}, {"translated", translated}, {"played", played}};
+    size_t blocks;
+    for (int k = 0; k < STEPS; k++) {
+        uint8_t kind = (uint8_t)(1 + drawn(3)), group = (uint8_t)drawn(8), mask = (uint8_t)drawn(256), value = (uint8_t)drawn(256);
+        uint8_t index = group < 6 ? (uint8_t)drawn(256) : 0;
+        uint8_t set[] = {1, group, index, value, 0, 0}, field[] = {2, group, index, value & mask, mask, 0};
+        uint8_t colour[] = {3, index, value, mask, group, 0};
+        memcpy(steps + 6 * k, kind == 1 ? set : kind == 2 ? field : colour, 6);
+    }
+    if (chips69000_write_script(steps, sizeof steps, file, sizeof file, &blocks) || blocks != BLOCKS) return 1;
+    chips69000_reset(state, sizeof state, 0xFF, 0x00);
+    for (size_t n = 0; n < sizeof ways / sizeof *ways; n++) {
+        double best = 1e12;
+        for (int turn = 0; turn < 200; turn++) {
+            double began = now();
+            if (ways[n].way()) return 1;
+            double each = now() - began;
+            if (each < best) best = each;
+        }
+        printf("a script of %d steps %s: %.0f times a second, %.1f million steps\n", STEPS, ways[n].name, 1e9 / best, STEPS * 1000.0 / best);
+    }
+    return 0;
+}
+
 int main(void) {
     fill();
     reset(&plain, 0xFF, 0x00);
@@ -262,6 +311,7 @@ int main(void) {
         if (each < run) run = each;
     }
     printf("run: %.1f million commands a second\n", 1000 / run);
+    if (scripts()) return 1;
     printf("library %.2f ns an access, plain C model %.2f ns, ratio %.2f (%u)\n", library, model, library / model, kept);
     return 0;
 }

@@ -54,7 +54,7 @@ static void fail(const char *format, ...)
 
 /* ---- The chip: a script is played, and its registers are asked. */
 
-enum { BLOCK = 512, BLOCKS = 12, STEPS = 1008, STEP_ROOM = 32, COMMAND = 4 };
+enum { BLOCK = 512, BLOCKS = 12, STEPS = 1008, STEP_ROOM = 32 };
 
 /* A script that was refused: the number says what the value counts. */
 static void look_at_script(const char *path, unsigned number, size_t value)
@@ -67,13 +67,13 @@ static void look_at_script(const char *path, unsigned number, size_t value)
         fail("%s: %s (number %u)", path, meaning(number), number);
 }
 
-/* Checks a script file, translates it into commands and runs them on the state. Gives the numbers of steps and commands. */
+/* Plays a script file on the state. Gives the numbers of its steps and of the commands that they became. */
 static void play(const char *path, size_t *steps, size_t *commands)
 {
     /* One byte more than the longest script, so that a longer file is seen to be longer, and refused. */
     static uint8_t file[BLOCKS * BLOCK + 1];
     static uint8_t bytes[STEPS * STEP_ROOM];
-    size_t length, count, place;
+    size_t length, value;
     unsigned number;
 
     FILE *from = fopen(path, "rb");
@@ -85,16 +85,10 @@ static void play(const char *path, size_t *steps, size_t *commands)
     number = chips69000_check_script(file, length, steps);
     look_at_script(path, number, *steps);
 
-    /* The translation asks for room of 32 bytes a step, and uses 4 bytes a command of it. */
-    number = chips69000_translate_script(file, length, bytes, *steps * STEP_ROOM, commands);
-    look_at_script(path, number, *commands);
-
-    /* The limit bounds the work of one call. Here it is all of the commands. */
-    number = chips69000_run(state, sizeof state, bytes, *commands * COMMAND, *commands, &count, &place);
-    if (number != CHIPS69000_DONE)
-        fail("%s: command %zu: %s (number %u)", path, place, meaning(number), number);
-    if (count != *commands)
-        fail("%s: only %zu of %zu commands were carried out", path, count, *commands);
+    /* The commands need room, 32 bytes a step. After this call every register and colour is what the steps say by name. A host that
+     * shares its time out translates once instead, and runs so many commands a call. */
+    number = chips69000_play(state, sizeof state, file, length, bytes, *steps * STEP_ROOM, commands, &value);
+    look_at_script(path, number, value);
 }
 
 /* The port accesses of the emulated processor end in these two. */

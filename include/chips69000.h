@@ -81,6 +81,11 @@ uint8_t chips69000_translate_script(const uint8_t *file, size_t file_length, uin
 uint8_t chips69000_run(uint8_t *state, size_t state_length, const uint8_t *commands, size_t commands_length, size_t limit,
                        size_t *count, size_t *place);
 
+/* A script file played on a state: translated into lent commands, 32 bytes a step, and run whole. Registers and colours are
+ * afterwards what the steps say by name. The count is of the commands carried out; the value is what the number says. */
+uint8_t chips69000_play(uint8_t *state, size_t state_length, const uint8_t *file, size_t file_length, uint8_t *commands,
+                        size_t commands_length, size_t *count, size_t *value);
+
 #ifdef __cplusplus
 }
 #endif

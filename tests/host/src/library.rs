@@ -19,6 +19,10 @@ mod raw {
         pub fn chips69000_run(
             s: *mut u8, n: usize, c: *const u8, cn: usize, limit: usize, count: *mut usize, place: *mut usize,
         ) -> u8;
+        #[allow(clippy::too_many_arguments)]
+        pub fn chips69000_play(
+            s: *mut u8, n: usize, f: *const u8, fl: usize, c: *mut u8, cn: usize, count: *mut usize, value: *mut usize,
+        ) -> u8;
     }
 }
 
@@ -84,6 +88,17 @@ pub fn run(s: &mut [u8], commands: &[u8], limit: usize) -> (u8, usize, usize) {
         raw::chips69000_run(s.as_mut_ptr(), s.len(), commands.as_ptr(), commands.len(), limit, &mut count, &mut place)
     };
     (r, count, place)
+}
+
+/// The number, the count and the value.
+pub fn play(s: &mut [u8], file: &[u8], commands: &mut [u8]) -> (u8, usize, usize) {
+    let (mut count, mut value) = (usize::MAX, usize::MAX);
+    let r = unsafe {
+        raw::chips69000_play(
+            s.as_mut_ptr(), s.len(), file.as_ptr(), file.len(), commands.as_mut_ptr(), commands.len(), &mut count, &mut value,
+        )
+    };
+    (r, count, value)
 }
 
 /// The number and the value.

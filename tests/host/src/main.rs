@@ -1,5 +1,6 @@
 //! The library compared with an independent model, from fixed seeds: resets, port accesses, colours, runs of commands, bytes of video
-//! memory and transfers, scripts whole and damaged, and bytes that are no state. A failure prints the input that differs, and the status is not 0.
+//! memory and transfers, scripts whole and damaged, scripts played, and bytes that are no state. A failure prints the input that
+//! differs, and the status is not 0.
 
 mod library;
 mod model;
@@ -157,6 +158,8 @@ fn runs(rows: &Rows, r: &mut Random, rounds: usize) -> usize {
 /// Bytes that are no state: refused, and none changes.
 fn lengths(r: &mut Random) -> usize {
     let mut tried = 0;
+    let mut script = vec![0; 512];
+    expect("a script of one step", library::write_script(&[3, 7, 1, 2, 3, 0], &mut script), (0, 1));
     for n in (0..2600).filter(|&n| n != STATE) {
         let kept: Vec<u8> = (0..n).map(|_| r.byte()).collect();
         let mut s = kept.clone();
@@ -166,6 +169,9 @@ fn lengths(r: &mut Random) -> usize {
         expect(&input, library::port_read(&mut s, 0x3C8), (NO_STATE, 0xFF));
         expect(&input, library::pixel(&s, 1), [NO_STATE, 0, 0, 0]);
         expect(&input, library::run(&mut s, &[1, 0xC8, 3, 1], 1), (NO_STATE, 0, 0));
+        let mut commands = [0x5A; 64];
+        expect(&input, library::play(&mut s, &script, &mut commands), (NO_STATE, 0, 0));
+        expect_bytes(&input, &commands, &[0x5A; 64]);
         expect_bytes(&input, &s, &kept);
         tried += 1;
     }
@@ -279,6 +285,54 @@ fn scripts(r: &mut Random, rounds: usize) -> [usize; 3] {
     accepted
 }
 
+/// Files, a few of them damaged, played on states whose indexes are stale and whose colour may be half loaded: what is left is what the
+/// commands do, and registers and colours are what the steps say by name. Closed ports refuse the first command.
+fn plays(rows: &Rows, r: &mut Random, rounds: usize) -> [usize; 2] {
+    let (mut expected, mut by_name, mut refused) = (Vec::new(), 0, 0);
+    for round in 0..rounds {
+        let mut s = start(r, rows);
+        for _ in 0..r.below(30) {
+            library::port_write(&mut s, port(r), r.byte());
+        }
+        let count = 1 + r.below(60) as usize;
+        let list: Vec<u8> = (0..count).flat_map(|_| step(r)).collect();
+        let mut file = vec![0; 512];
+        let written = library::write_script(&list, &mut file);
+        if written.0 != 0 || r.one_in(10) {
+            file[r.below(512) as usize] ^= 1 << r.below(8);
+        }
+        let room = if r.one_in(20) { r.below(32 * count as u32) } else { 32 * count as u32 + r.below(9) } as usize;
+        let mut commands: Vec<u8> = (0..room).map(|_| r.byte()).collect();
+        let mut kept = commands.clone();
+        let input = format!("play {round}: {:02X?} in {room} bytes", &list);
+        let before = Chip::from_bytes(&s);
+        let got = library::play(&mut s, &file, &mut commands);
+
+        let mut after = before.clone();
+        let translated = script::translate(&file, &mut kept);
+        let want = match translated {
+            (0, k) => after.run(rows, &kept[..4 * k], k),
+            (number, value) => (number, 0, value),
+        };
+        expect(&input, got, want);
+        after.to_bytes(&mut expected);
+        expect_bytes(&input, &s, &expected);
+        expect_bytes(&format!("{input}, commands"), &commands, &kept);
+
+        if translated.0 != 0 || !before.is_open() {
+            expect(&format!("{input}, refused"), Chip::from_bytes(&s) == before, true);
+            refused += 1;
+            continue;
+        }
+        let mut said = before;
+        script::steps(&file).unwrap().iter().for_each(|step| said.apply(rows, step));
+        expect(&format!("{input}, carried out"), got, (0, translated.1, 0));
+        expect_bytes(&format!("{input}, by name"), &Chip::from_bytes(&s).named(), &said.named());
+        by_name += 1;
+    }
+    [by_name, refused]
+}
+
 fn main() {
     let rows = Rows::read();
     let r = &mut Random(69000);
@@ -290,4 +344,6 @@ fn main() {
     println!("{} transfers of 100000 are done and agree, the others are refused alike", transfers(r, 100_000));
     let [written, checked, translated] = scripts(r, 20_000);
     println!("20000 scripts agree: {written} written, {checked} accepted, {translated} translated, the others refused alike");
+    let [by_name, refused] = plays(&rows, r, 50_000);
+    println!("50000 scripts played agree: {by_name} did what they say by name, {refused} were refused alike and changed nothing");
 }

@@ -59,6 +59,8 @@ pub struct Chip {
 
 const CR: usize = 0;
 const XR: usize = 3;
+const MSR: usize = 6;
+const PALMASK: usize = 7;
 
 /// What a port leads to.
 enum Port {
@@ -148,7 +150,7 @@ impl Chip {
         })
     }
 
-    fn is_open(&self) -> bool {
+    pub fn is_open(&self) -> bool {
         self.tables[XR][0x70] & 2 != 0
     }
 
@@ -176,6 +178,55 @@ impl Chip {
         (0..8).map(|k| 1 << k).map(|bit| if mask & bit != 0 { v & bit } else { old & bit }).sum()
     }
 
+    /// The byte of a register, by name.
+    fn get(&self, g: usize, i: u8) -> u8 {
+        match g {
+            MSR => self.msr,
+            PALMASK => self.palmask,
+            _ => self.tables[g][i as usize],
+        }
+    }
+
+    /// A register receives a byte, by name.
+    fn put(&mut self, rows: &Rows, g: usize, i: u8, v: u8) {
+        let mut mask = match g {
+            MSR => 0xEF,
+            PALMASK => 0xFF,
+            _ => rows.writable(g, i),
+        };
+        if g == CR && i <= 7 && self.tables[CR][0x11] & 0x80 != 0 {
+            mask &= if i == 7 { 0x10 } else { 0 };
+        }
+        let byte = Chip::write_rule(self.get(g, i), v, mask);
+        match g {
+            MSR => self.msr = byte,
+            PALMASK => self.palmask = byte,
+            _ => self.tables[g][i as usize] = byte,
+        }
+    }
+
+    fn put_colour(&mut self, entry: u8, colour: [u8; 3]) {
+        self.palette[entry as usize] = colour.map(|x| self.by_mode(x));
+    }
+
+    /// A step of a script, by name: no index and no port.
+    pub fn apply(&mut self, rows: &Rows, s: &[u8]) {
+        let (g, i) = (s[1] as usize, s[2]);
+        match s[0] {
+            1 => self.put(rows, g, i, s[3]),
+            2 => self.put(rows, g, i, self.get(g, i) & !s[4] | s[3]),
+            _ => self.put_colour(s[1], [s[2], s[3], s[4]]),
+        }
+    }
+
+    /// What has a name: the registers and the colours.
+    pub fn named(&self) -> Vec<u8> {
+        let mut bytes: Vec<u8> = self.tables.iter().flatten().copied().collect();
+        bytes.extend(self.palette.iter().flatten());
+        bytes.extend([self.msr, self.palmask]);
+        bytes
+    }
+
     pub fn write(&mut self, rows: &Rows, port: u16, v: u8) -> u8 {
         if !self.is_open() {
             return 2;
@@ -183,22 +234,14 @@ impl Chip {
         let Some(p) = self.leads(port, true) else { return 1 };
         match p {
             Port::Index(g) => self.indexes[g] = v,
-            Port::Data(g) => {
-                let i = self.indexes[g];
-                let mut mask = rows.writable(g, i);
-                if g == CR && i <= 7 && self.tables[CR][0x11] & 0x80 != 0 {
-                    mask &= if i == 7 { 0x10 } else { 0 };
-                }
-                let byte = &mut self.tables[g][i as usize];
-                *byte = Chip::write_rule(*byte, v, mask);
-            }
-            Port::Msr => self.msr = Chip::write_rule(self.msr, v, 0xEF),
-            Port::Palmask => self.palmask = v,
+            Port::Data(g) => self.put(rows, g, self.indexes[g], v),
+            Port::Msr => self.put(rows, MSR, 0, v),
+            Port::Palmask => self.put(rows, PALMASK, 0, v),
             Port::ReadIndex => (self.index, self.position, self.reading) = (v, 0, true),
             Port::WriteIndex => (self.index, self.position, self.reading) = (v, 0, false),
             Port::Paldata => {
                 match self.at() {
-                    2 => self.palette[self.index as usize] = [self.held[0], self.held[1], v].map(|x| self.by_mode(x)),
+                    2 => self.put_colour(self.index, [self.held[0], self.held[1], v]),
                     k => self.held[k] = v,
                 }
                 self.move_on();

@@ -26,7 +26,7 @@ fn is_block(b: &[u8], number: usize, last: bool) -> bool {
 }
 
 /// The steps of a file, or the refusal.
-fn steps(file: &[u8]) -> Result<Vec<&[u8]>, (u8, usize)> {
+pub fn steps(file: &[u8]) -> Result<Vec<&[u8]>, (u8, usize)> {
     let blocks = file.len() / 512;
     if file.len() % 512 != 0 || !(1..=12).contains(&blocks) {
         return Err((8, 0));
