@@ -3,11 +3,10 @@ use Prim.Native.Nat.{ℕ, zero, suc, _+_, _*_, _-_, _/_, _%_, _^_, _<_, _≤_}
 use native.Mathlib.Omega.{arith}
 use mathlib.Core.Path.{_≡_, refl, ap, sym, _∙_}
 use lib.Pow.{shr-shr}
-use Rattle.registers.specs.Groups.{numberOf, writableOf}
+use Rattle.registers.specs.Groups.{numberOf, groupAt, writableOf}
 use Rattle.registers.specs.declared.Group.{Group}
-use Rattle.registers.specs.declared.Group.the-variants.{Cr, Sr, Gr, Xr, Fr, Mr, Msr, Palmask}
-use Rattle.registers.proofs.TableLaws.{byte-rows}
-use Rattle.masks.specs.Table.{packed, groupAt, lineOf}
+use Rattle.registers.proofs.TableLaws.{group-numbered, byte-rows}
+use Rattle.masks.specs.Table.{packed, lineOf}
 
 -- byte j of those that are packed, d before the last
 pub packed-at : (f : ℕ → ℕ) → ((j : ℕ) → f j < 256) → (d j n : ℕ) → d + j ≡ n → packed f (suc n) / 2 ^ (8 * d) % 256 ≡ f j
@@ -22,18 +21,8 @@ packed-at f h (suc d) j (suc n) e =
     ∙ ap (λ (x : ℕ). x % 256) (sym (shr-shr (packed f (suc (suc n))) 8 (8 * d)) ∙ ap (λ (x : ℕ). x / 2 ^ (8 * d)) cut)
     ∙ packed-at f h d j n (omega arith)
 
-group-at : (g : Group) → groupAt (numberOf g) ≡ g
-group-at Cr = refl
-group-at Sr = refl
-group-at Gr = refl
-group-at Xr = refl
-group-at Fr = refl
-group-at Mr = refl
-group-at Msr = refl
-group-at Palmask = refl
-
 pub by-number : (g : Group) (n i : ℕ) → numberOf g ≡ n → writableOf g i ≡ writableOf (groupAt n) i
-by-number g n i e = ap (λ (h : Group). writableOf h i) (sym (group-at g) ∙ ap groupAt e)
+by-number g n i e = ap (λ (h : Group). writableOf h i) (sym (group-numbered g) ∙ ap groupAt e)
 
 pub in-line : (g : Group) (i : ℕ) → i < 256 → lineOf (32 * numberOf g + i / 8) / 2 ^ (8 * (7 - i % 8)) % 256 ≡ writableOf g i
 unfolding lineOf
@@ -41,7 +30,7 @@ in-line g i h =
     let table : (32 * numberOf g + i / 8) / 32 ≡ numberOf g = omega arith in
     let place : 8 * ((32 * numberOf g + i / 8) % 32) + i % 8 ≡ i = omega arith in
     packed-at (λ j. writableOf (groupAt ((32 * numberOf g + i / 8) / 32)) (8 * ((32 * numberOf g + i / 8) % 32) + j)) (λ j. byte-rows _ _ .0) (7 - i % 8) (i % 8) 7 (omega arith)
-    ∙ rw (table, group-at g, place)
+    ∙ rw (table, group-numbered g, place)
 
 -- the number is none of those below n: what a match says in its last arm
 abbrev pub NotBelow : ℕ → ℕ → Type 0

@@ -2,7 +2,7 @@
 use native.Mathlib.Omega.{arith}
 use Prim.Native.Nat.{_/_, _≤_}
 use mathlib.Core.Path.{_≡_}
-use Rattle.registers.specs.Groups.{rowOf}
+use Rattle.registers.specs.Groups.{groupAt, rowOf}
 use Rattle.registers.specs.CrtController.{CR}
 use Rattle.registers.specs.Sequencer.{SR}
 use Rattle.registers.specs.Graphics.{GR}
@@ -15,7 +15,7 @@ use Rattle.masks.proofs.line.Statement.{statement}
 use Rattle.masks.proofs.line.Tie as tie
 
 pub line-spec : {M : Type 1} → statement M
-unfolding lineOf packed rowOf CR SR GR XR FR MR
+unfolding lineOf packed groupAt rowOf CR SR GR XR FR MR
 line-spec =
     tie.close
     (tie.spec

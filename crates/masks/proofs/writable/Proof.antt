@@ -2,13 +2,13 @@
 use mathlib.Core.Path.{sym, _∙_}
 use native.Mathlib.Omega.{arith}
 use borrow.Author.Needs.{needs}
-use Rattle.registers.specs.Groups.{rowOf}
+use Rattle.registers.specs.Groups.{groupAt, rowOf}
 use Rattle.masks.proofs.LineLaws.{by-number, in-line}
 use Rattle.masks.proofs.writable.Statement.{statement}
 use Rattle.masks.proofs.writable.Tie as tie
 
 pub writable-spec : {M : Type 1} → statement M
-unfolding rowOf
+unfolding groupAt rowOf
 writable-spec =
     tie.close
     (tie.spec
