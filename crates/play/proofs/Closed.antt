@@ -23,7 +23,7 @@ use Rattle.run.specs.Run.{one, done, runFrom, ranTo}
 use Rattle.run.proofs.RunLaws.{knowns}
 use Rattle.run.specs.declared.Reason.the-variants.{Closed}
 use Rattle.run.specs.declared.Ending.the-variants.{Stopped}
-use Rattle.play.specs.ByName.{groupAt}
+use Rattle.registers.specs.Groups.{groupAt}
 use Rattle.play.proofs.Reaching.{Leads, leads}
 use Rattle.play.proofs.Demand3.{AllLegal}
 

@@ -9,10 +9,10 @@ use lib.Dec.{eqb}
 use borrow.Author.Tests.{eqb-true, le-ltb}
 use Rattle.lists.specs.Bits.{bit, isSet}
 use Rattle.registers.specs.Extension.{XR}
-use Rattle.registers.specs.Groups.{numberOf, rowOf, writableOf}
+use Rattle.registers.specs.Groups.{groupAt, rowOf, writableOf}
 use Rattle.registers.proofs.WriteLaws.{locked-fewer}
 use Rattle.registers.specs.declared.Group.{Group}
-use Rattle.registers.specs.declared.Group.the-variants.{Cr, Sr, Gr, Xr, Fr, Mr, Msr, Palmask}
+use Rattle.registers.specs.declared.Group.the-variants.{Cr, Xr}
 use Rattle.ports.specs.Ports.{ports, target}
 use Rattle.ports.specs.declared.Target.the-variants.{Index, Data, NotPicked}
 use Rattle.chip.specs.State.{Named, indexOf, withIndex}
@@ -24,7 +24,6 @@ use Rattle.steps.specs.Step.{names}
 use Rattle.commands.specs.Expansion.{ways}
 use Rattle.commands.specs.declared.Ways.{Ways}
 use Rattle.commands.specs.declared.Ways.the-variants.{Pair, Pairs, Direct, Nowhere}
-use Rattle.play.specs.ByName.{groupAt}
 
 -- an index port and a data port that lead to a group while MSR bit 0 is b, and a pair that is not picked
 abbrev pub On : Bool → Group → ℕ → ℕ → Type 0
@@ -67,18 +66,6 @@ leads b (suc (suc (suc (suc (suc (suc (suc zero))))))) i h = (refl, refl, λ y. 
 leads b (suc (suc (suc (suc (suc (suc (suc (suc group)))))))) i h =
     let k : ℕ = suc (suc (suc (suc (suc (suc (suc (suc group))))))) in
     absurd (false-true (rw (le-ltb k 6 (omega arith), le-ltb k 8 (omega arith)) at h))
-
--- the group of a group's number is the group
-pub group-numbered : (g : Group) → groupAt (numberOf g) ≡ g
-unfolding groupAt
-group-numbered Cr = refl
-group-numbered Sr = refl
-group-numbered Gr = refl
-group-numbered Xr = refl
-group-numbered Fr = refl
-group-numbered Mr = refl
-group-numbered Msr = refl
-group-numbered Palmask = refl
 
 -- ---- the ports stay open
 XR70-fixed : writableOf Xr 0x70 ≡ 0x00

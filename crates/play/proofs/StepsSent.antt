@@ -23,7 +23,8 @@ use Rattle.commands.specs.declared.CommandRead.the-variants.{Known}
 use Rattle.commands.specs.declared.Ways.{Ways}
 use Rattle.commands.specs.declared.Ways.the-variants.{Pair, Pairs, Direct, Nowhere}
 use Rattle.run.specs.Run.{one, done, carry}
-use Rattle.play.specs.ByName.{groupAt, applied}
+use Rattle.registers.specs.Groups.{groupAt}
+use Rattle.play.specs.ByName.{applied}
 use Rattle.play.proofs.Sends.{Sends, Any, At, sends-append, sends-from, sends-any, selects, stores, changes, passes, skips, ended}
 use Rattle.play.proofs.Reaching.{Leads, leads, open-received}
 

@@ -1,23 +1,14 @@
 -- What steps say by name: each applied to the registers and colours by the named access of crate `chip` alone. There is no index
 -- register and no port here. Document 01, "Scripts": SET, FIELD and COLOUR, protection and palette mode included.
 use Prim.Native.Nat.{ℕ, _-_}
-use mathlib.Core.Bool.{cond}
 use mathlib.Core.List.{List, [], _∷_}
-use lib.Dec.{eqb}
 use lib.Bits.{bitAnd, bitOr}
-use Rattle.registers.specs.declared.Group.{Group}
-use Rattle.registers.specs.declared.Group.the-variants.{Cr, Sr, Gr, Xr, Fr, Mr, Msr, Palmask}
+use Rattle.registers.specs.Groups.{groupAt}
 use Rattle.chip.specs.State.{Named}
 use Rattle.chip.specs.Names.{register, received}
 use Rattle.chip.specs.Palette.{coloured}
 use Rattle.steps.specs.declared.Step.{Step}
 use Rattle.steps.specs.declared.Step.the-variants.{Set, Field, Colour}
-
--- the group of a number, 0 to 7; a number above 7 stands in no legal step
-unfoldable pub groupAt : ℕ → Group
-groupAt k =
-    cond (eqb k 0) Cr (cond (eqb k 1) Sr (cond (eqb k 2) Gr (cond (eqb k 3) Xr
-    (cond (eqb k 4) Fr (cond (eqb k 5) Mr (cond (eqb k 6) Msr Palmask))))))
 
 -- "The register receives what it reads, with the mask's bits replaced."
 abbrev pub replacedBits : ℕ → ℕ → ℕ → ℕ

@@ -15,7 +15,7 @@ use Rattle.registers.specs.Graphics.{GR}
 use Rattle.registers.specs.Extension.{XR}
 use Rattle.registers.specs.FlatPanel.{FR}
 use Rattle.registers.specs.Multimedia.{MR}
-use Rattle.registers.specs.Groups.{rowOf, writableIn, resetIn}
+use Rattle.registers.specs.Groups.{numberOf, groupAt, rowOf, writableIn, resetIn}
 use Rattle.registers.specs.declared.Row.{Row}
 use Rattle.registers.specs.declared.Row.the-variants.{Listed}
 use Rattle.registers.specs.declared.Group.{Group}
@@ -67,6 +67,18 @@ FR-table = record { registers = refl; order = refl; numbers = refl }
 pub MR-table : Table MR 55
 unfolding MR
 MR-table = record { registers = refl; order = refl; numbers = refl }
+
+-- the group of a group's number is the group
+pub group-numbered : (g : Group) → groupAt (numberOf g) ≡ g
+unfolding groupAt
+group-numbered Cr = refl
+group-numbered Sr = refl
+group-numbered Gr = refl
+group-numbered Xr = refl
+group-numbered Fr = refl
+group-numbered Mr = refl
+group-numbered Msr = refl
+group-numbered Palmask = refl
 
 -- the writable bits and the reset byte of a row are bytes
 abbrev pub Bytes : Row → Type 0

@@ -1,7 +1,7 @@
 -- The groups and the row of each register. Document 01, "Ports" (the numbers of the groups) and "Registers".
 -- MSR is chapter 8's, PALMASK chapter 13's: one register each, at whatever index.
 use Prim.Native.Nat.{ℕ}
-use mathlib.Core.Bool.{Bool}
+use mathlib.Core.Bool.{Bool, cond}
 use lib.Dec.{eqb}
 use Rattle.registers.specs.Rows.{rowIn}
 use Rattle.registers.specs.CrtController.{CR}
@@ -25,6 +25,12 @@ numberOf Fr = 4
 numberOf Mr = 5
 numberOf Msr = 6
 numberOf Palmask = 7
+
+-- the group of a number, 0 to 7; a number above 7 is no group's
+unfoldable pub groupAt : ℕ → Group
+groupAt k =
+    cond (eqb k 0) Cr (cond (eqb k 1) Sr (cond (eqb k 2) Gr (cond (eqb k 3) Xr
+    (cond (eqb k 4) Fr (cond (eqb k 5) Mr (cond (eqb k 6) Msr Palmask))))))
 
 -- whether two groups are the same
 abbrev pub is : Group → Group → Bool

@@ -32,9 +32,13 @@ leftOpen Mr i = 0xFF
 leftOpen Msr i = 0xFF
 leftOpen Palmask i = 0xFF
 
+-- the bits of a mask that the group's lock, on or off, leaves
+abbrev pub underLock : Group → Bool → ℕ → ℕ → ℕ
+underLock g locked i mask = cond locked (bitAnd mask (leftOpen g i)) mask
+
 -- the bits that a write can change while the group's lock is on or off
 unfoldable pub writableNow : Group → Bool → ℕ → ℕ
-writableNow g locked i = cond locked (bitAnd (writableOf g i) (leftOpen g i)) (writableOf g i)
+writableNow g locked i = underLock g locked i (writableOf g i)
 
 -- the byte after a write: the mask's bits are those of `new`, the others those of `old`
 unfoldable pub written : ℕ → ℕ → ℕ → ℕ

@@ -4,7 +4,7 @@
 // The chip's state is not here: crate `chip` holds it.
 ghost use mathlib.Core.Path.{_≡_};
 ghost use Rattle.registers.specs.Groups.{rowOf, writableOf, resetOf};
-ghost use Rattle.registers.specs.WriteRule.{lockedBy, leftOpen, writableNow, written};
+ghost use Rattle.registers.specs.WriteRule.{lockedBy, leftOpen, underLock, writableNow, written};
 
 mod rows;
 
@@ -107,12 +107,18 @@ fn left_open(g: Group, i: u8) -> u8
     }
 }
 
+// The bits of a mask that the group's lock, on or off, leaves.
+pub fn under_lock(g: Group, locked: bool, i: u8, mask: u8) -> u8
+    ensures { λ r. ⌜ r ≡ underLock g locked i mask ⌝ }
+{
+    if locked { mask & left_open(g, i) } else { mask }
+}
+
 // The bits that a write can change while the group's lock is on or off.
 pub fn writable_now(g: Group, locked: bool, i: u8) -> u8
     ensures { λ r. ⌜ r ≡ writableNow g locked i ⌝ }
 {
-    let w = writable(g, i);
-    if locked { w & left_open(g, i) } else { w }
+    under_lock(g, locked, i, writable(g, i))
 }
 
 // The byte that a register holds after `new` is written to it over `old`: the writable bits are those of

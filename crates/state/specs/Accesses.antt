@@ -1,6 +1,6 @@
 -- What a call on lent bytes leaves and answers. Bytes of another length than a state's are refused, and none of them changes;
 -- bytes of the right length hold afterwards the chip that crate `chip`'s definition gives from the chip that they held.
-use Prim.Native.Nat.{ℕ}
+use Prim.Native.Nat.{ℕ, _/_, _%_}
 use mathlib.Core.Path.{_≡_}
 use mathlib.Core.Bool.{Bool, cond}
 use mathlib.Core.List.{List}
@@ -8,11 +8,9 @@ use lib.Dec.{eqb}
 use lib.ListN.{length}
 use Rattle.chip.specs.State.{named}
 use Rattle.chip.specs.Palette.{shown}
-use Rattle.chip.specs.Access.{portWritten, portRead}
+use Rattle.chip.specs.Access.{numberOf, portWritten, portRead}
 use Rattle.chip.specs.declared.Chip.{Chip}
-use Rattle.chip.specs.declared.access.Answer.{Answer}
 use Rattle.state.specs.Layout.{whole, view, spare, Holds}
-use Rattle.state.specs.declared.access.Got.{Got}
 use Rattle.state.specs.declared.access.Written.{Written}
 use Rattle.state.specs.declared.access.Written.the-variants.{Answered as WriteAnswered, Length as WriteLength}
 use Rattle.state.specs.declared.access.Seen.{Seen}
@@ -39,12 +37,12 @@ readAnswer l p = cond (isState l) (ReadAnswered (portRead (view l) p .answer) (p
 abbrev pub pixelAnswer : List ℕ → ℕ → Colour
 pixelAnswer l p = cond (isState l) (Shown (shown (named (view l)) p)) ColourLength
 
--- an access on a state
-pub record WroteIn (l : List ℕ) (p v : ℕ) (m : List ℕ) (r : Answer) : Type 0 where
+-- an access on a state, which answers by its number, a read with the byte
+pub record WroteIn (l : List ℕ) (p v : ℕ) (m : List ℕ) (r : ℕ) : Type 0 where
   pub holds : Holds m (portWritten (view l) p v .chip) (spare l)
-  pub answer : r ≡ portWritten (view l) p v .answer
+  pub answer : r ≡ numberOf (portWritten (view l) p v .answer)
 
-pub record ReadIn (l : List ℕ) (p : ℕ) (m : List ℕ) (r : Got) : Type 0 where
+pub record ReadIn (l : List ℕ) (p : ℕ) (m : List ℕ) (r : ℕ) : Type 0 where
   pub holds : Holds m (portRead (view l) p .chip) (spare l)
-  pub answer : r .answer ≡ portRead (view l) p .answer
-  pub value : r .value ≡ portRead (view l) p .value
+  pub answer : r / 256 ≡ numberOf (portRead (view l) p .answer)
+  pub value : r % 256 ≡ portRead (view l) p .value

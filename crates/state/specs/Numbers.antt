@@ -1,11 +1,19 @@
 -- The answers on lent bytes in numbers: document 01's ("Numbers returned"), and 255 for bytes that are no state, which document 01
 -- does not have. A byte that is read comes as 256 times the number plus the byte.
 use Prim.Native.Nat.{ℕ, _+_, _*_}
+use mathlib.Core.Bool.{cond}
+use lib.Dec.{eqb}
 use Rattle.chip.specs.Access.{numberOf}
+use Rattle.chip.specs.declared.access.Answer.{Answer}
+use Rattle.chip.specs.declared.access.Answer.the-variants.{Done, Unlisted, Closed}
 use Rattle.state.specs.declared.access.Written.{Written}
 use Rattle.state.specs.declared.access.Written.the-variants.{Answered as WriteAnswered, Length as WriteLength}
 use Rattle.state.specs.declared.access.Seen.{Seen}
 use Rattle.state.specs.declared.access.Seen.the-variants.{Answered as ReadAnswered, Length as ReadLength}
+
+-- the answer of a number
+abbrev pub answerOf : ℕ → Answer
+answerOf n = cond (eqb n 0) Done (cond (eqb n 1) Unlisted Closed)
 
 -- bytes that are no state
 abbrev pub noState : ℕ

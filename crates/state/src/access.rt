@@ -1,13 +1,13 @@
 // Port reads and writes on lent bytes, in place. Document 01, "Ports" and numbers 0, 1 and 2. The text is that
 // of crate `chip`'s methods, each callee working on the bytes. A refused access changes no byte.
 ghost use mathlib.Core.Path.{_≡_};
-ghost use Prim.Native.Nat.{_+_, _*_};
+ghost use Prim.Native.Nat.{_/_, _%_};
 ghost use lib.ListN.{length};
 ghost use Rattle.chip.specs.State.{withIndexes, indexOf, withIndex};
 ghost use Rattle.chip.specs.Access.{portWritten, portRead};
 ghost use Rattle.state.specs.Layout.{whole, view, spare, Holds};
 ghost use Rattle.state.specs.Accesses.{Left, writeAnswer, readAnswer, WroteIn, ReadIn};
-ghost use Rattle.state.specs.Numbers.{writeNumber, readWord};
+ghost use Rattle.state.specs.Numbers.{answerOf, writeNumber, readWord};
 use crate::aim;
 use crate::get;
 use crate::is_colour;
@@ -18,7 +18,6 @@ use crate::palstate;
 use crate::put;
 use crate::step;
 use chip::access::Answer;
-use chip::access::number;
 use ports::Target;
 use ports::leads_to;
 use registers::Group;
@@ -40,10 +39,27 @@ pub enum Seen {
     Length,
 }
 
-// What is read from a state.
-struct Got {
-    answer: Answer,
-    value: u8,
+// Document 01's numbers of an access. On a state an access answers by its number, a read by 256 times the number
+// plus the byte: one number stays in a register, where an enum or a struct would go through memory.
+const DONE: u8 = 0;
+
+const UNLISTED: u8 = 1;
+
+const CLOSED: u8 = 2;
+
+const UNLISTED_WORD: u16 = 0x1FF;
+
+const CLOSED_WORD: u16 = 0x2FF;
+
+// The answer that a number stands for.
+fn answer_of(n: u8) -> Answer
+    ensures { λ r. ⌜ r ≡ answerOf n ⌝ }
+{
+    match n {
+        0 => Answer::Done,
+        1 => Answer::Unlisted,
+        _ => Answer::Closed,
+    }
 }
 
 // A group's index; MSR and PALMASK have none, and stand at 0.
@@ -81,60 +97,54 @@ fn set_index(state: &mut [u8], g: Group, v: u8)
 }
 
 // A port write on a state.
-fn write_in(state: &mut [u8], port: u16, v: u8) -> Answer
+fn write_in(state: &mut [u8], port: u16, v: u8) -> u8
     requires { ⌜ length (now state) ≡ whole ⌝ }
     ensures { λ r. ⌜ WroteIn (now (state .entry)) port v (now (state .exit)) r ⌝ }
 {
     if !is_open(state) {
-        return Answer::Closed;
+        return CLOSED;
     }
     match leads_to(is_colour(state), true, port) {
         Target::Index(g) => {
             set_index(state, g, v);
-            Answer::Done
+            DONE
         }
         Target::Data(g) => {
             let i = index(state, g);
             put(state, g, i, v);
-            Answer::Done
+            DONE
         }
         Target::ReadIndex => {
             aim(state, v, true);
-            Answer::Done
+            DONE
         }
         Target::WriteIndex => {
             aim(state, v, false);
-            Answer::Done
+            DONE
         }
         Target::Paldata => {
             load(state, v);
-            Answer::Done
+            DONE
         }
-        Target::NotPicked => Answer::Done,
-        Target::NotListed => Answer::Unlisted,
+        Target::NotPicked => DONE,
+        Target::NotListed => UNLISTED,
     }
 }
 
-// A value that an access shows.
-fn done(value: u8) -> Got
-    ensures { λ r. ⌜ (r .answer ≡ Answer.Done) × (r .value ≡ value) ⌝ }
+// A byte that an access shows, as a word.
+fn done(value: u8) -> u16
+    ensures { λ r. ⌜ (r / 256 ≡ 0) × (r % 256 ≡ value) ⌝ }
 {
-    Got {
-        answer: Answer::Done,
-        value,
-    }
+    value as u16
 }
 
 // A port read on a state.
-fn read_in(state: &mut [u8], port: u16) -> Got
+fn read_in(state: &mut [u8], port: u16) -> u16
     requires { ⌜ length (now state) ≡ whole ⌝ }
     ensures { λ r. ⌜ ReadIn (now (state .entry)) port (now (state .exit)) r ⌝ }
 {
     if !is_open(state) {
-        return Got {
-            answer: Answer::Closed,
-            value: 0xFF,
-        };
+        return CLOSED_WORD;
     }
     match leads_to(is_colour(state), false, port) {
         Target::Index(g) => done(index(state, g)),
@@ -150,10 +160,7 @@ fn read_in(state: &mut [u8], port: u16) -> Got
             done(v)
         }
         Target::NotPicked => done(0xFF),
-        Target::NotListed => Got {
-            answer: Answer::Unlisted,
-            value: 0xFF,
-        },
+        Target::NotListed => UNLISTED_WORD,
     }
 }
 
@@ -165,7 +172,7 @@ pub fn port_write(state: &mut [u8], port: u16, v: u8) -> Written
     if state.len() != STATE {
         return Written::Length;
     }
-    Written::Answered(write_in(state, port, v))
+    Written::Answered(answer_of(write_in(state, port, v)))
 }
 
 // A port read.
@@ -176,16 +183,8 @@ pub fn port_read(state: &mut [u8], port: u16) -> Seen
     if state.len() != STATE {
         return Seen::Length;
     }
-    let g = read_in(state, port);
-    let answer = g.answer;
-    Seen::Answered(answer, g.value)
-}
-
-// A number and a byte as one word.
-fn word(n: u8, v: u8) -> u16
-    ensures { λ r. ⌜ r ≡ 256 * n + v ⌝ }
-{
-    256 * (n as u16) + (v as u16)
+    let w = read_in(state, port);
+    Seen::Answered(answer_of((w / 256) as u8), (w % 256) as u8)
 }
 
 // A port write that answers by its number alone.
@@ -196,7 +195,7 @@ pub fn write_number(state: &mut [u8], port: u16, v: u8) -> u8
     if state.len() != STATE {
         return 255;
     }
-    number(write_in(state, port, v))
+    write_in(state, port, v)
 }
 
 // A port read that answers by 256 times its number, plus the byte.
@@ -207,7 +206,5 @@ pub fn read_word(state: &mut [u8], port: u16) -> u16
     if state.len() != STATE {
         return 65535;
     }
-    let g = read_in(state, port);
-    let answer = g.answer;
-    word(number(answer), g.value)
+    read_in(state, port)
 }

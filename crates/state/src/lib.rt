@@ -12,9 +12,10 @@ ghost use Rattle.chip.specs.State.{named, join, withNamed, withLoading};
 ghost use Rattle.chip.specs.Names.{register, locked as lockedOf, received, portsOpen, colour as colourOf, eightBit};
 ghost use Rattle.chip.specs.Palette.{byMode, coloured, aimed, held, moved, loaded, palstate as palstateOf, paldata as paldataOf};
 ghost use Rattle.state.specs.Layout.{start, whole, view, spare, regionOf, slotOf, placeOf, thirdOf, Holds};
+use masks::writable;
 use registers::Group;
 use registers::locked_by;
-use registers::writable_now;
+use registers::under_lock;
 use registers::write;
 
 pub mod access;
@@ -83,8 +84,8 @@ fn put(state: &mut [u8], g: Group, i: u8, v: u8)
     requires { ⌜ length (now state) ≡ whole ⌝ }
     ensures { λ _. ⌜ Holds (now (state .exit)) (withNamed (view (now (state .entry))) (received g (named (view (now (state .entry)))) i v)) (spare (now (state .entry))) ⌝ }
 {
-    let mask = writable_now(g, locked(state, g), i);
     let at = place(g, i);
+    let mask = under_lock(g, locked(state, g), i, writable(g, i));
     let old = state[at];
     state[at] = write(old, v, mask);
 }

@@ -1,4 +1,4 @@
--- With the lock on and off.
+-- The lock's part of the writable bits.
 use Rattle.registers.specs.WriteRule.{writableNow}
 use borrow.Author.Needs.{needs}
 use Rattle.registers.proofs.writable_now.Statement.{statement}
@@ -11,5 +11,4 @@ writable-now-spec =
     (tie.spec
     (λ c κs. search needs)
     (λ c κs. search needs)
-    (λ c. rw (c .before .if1 .taken, c .left-open .ensures, c .before .before .writable .ensures))
-    (λ c. rw (c .if1 .left, c .before .writable .ensures)))
+    (λ c. rw (c .under-lock .ensures, c .before .writable .ensures)))

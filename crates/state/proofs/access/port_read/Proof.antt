@@ -1,6 +1,6 @@
 -- Another length is refused; on a state the access is done.
 use borrow.Author.Tests.{eq-eqb, ne-eqb}
-use Rattle.state.proofs.Reached.{left-held, left-kept}
+use Rattle.state.proofs.Reached.{answer-again, left-held, left-kept}
 use borrow.Author.Needs.{needs}
 use Rattle.state.proofs.access.port_read.Statement.{statement}
 use Rattle.state.proofs.access.port_read.Tie as tie
@@ -12,4 +12,7 @@ port-read-spec =
     (λ c. (rw (ne-eqb _ _ (c .if1 .taken)), left-kept (c .if1 .taken)))
     (λ c κs. search needs)
     (λ c. search needs)
-    (λ c. (rw (eq-eqb _ _ (c .before .before .before .before .if1 .left), c .before .before .read-in .ensures .answer, c .before .before .read-in .ensures .value), left-held (c .before .before .before .before .if1 .left) (c .before .before .read-in .ensures .holds))))
+    (λ c κs. search needs)
+    (λ c. search needs)
+    (λ c. search needs)
+    (λ c. (rw (eq-eqb _ _ (c .before .before .before .before .before .if1 .left), c .answer-of .ensures, c .before .before .before .read-in .ensures .answer, answer-again _, c .before .before .before .read-in .ensures .value), left-held (c .before .before .before .before .before .if1 .left) (c .before .before .before .read-in .ensures .holds))))

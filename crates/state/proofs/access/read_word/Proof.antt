@@ -2,6 +2,7 @@
 use borrow.Author.Tests.{eq-eqb, ne-eqb}
 use Rattle.state.proofs.Reached.{left-held, left-kept}
 use borrow.Author.Needs.{needs}
+use native.Mathlib.Omega.{arith}
 use Rattle.state.proofs.access.read_word.Statement.{statement}
 use Rattle.state.proofs.access.read_word.Tie as tie
 
@@ -11,7 +12,5 @@ read-word-spec =
     (tie.spec
     (λ c. (rw (ne-eqb _ _ (c .if1 .taken)), left-kept (c .if1 .taken)))
     (λ c κs. search needs)
-    (λ c κs. search needs)
-    (λ c κs. search needs)
     (λ c. search needs)
-    (λ c. (rw (eq-eqb _ _ (c .before .before .before .before .before .before .if1 .left), ← c .before .before .before .before .read-in .ensures .answer, ← c .before .before .before .before .read-in .ensures .value, ← c .before .number .ensures) (c .word .ensures), left-held (c .before .before .before .before .before .before .if1 .left) (c .before .before .before .before .read-in .ensures .holds))))
+    (λ c. (rw (eq-eqb _ _ (c .before .before .before .before .if1 .left), ← c .before .before .read-in .ensures .answer, ← c .before .before .read-in .ensures .value) (omega arith), left-held (c .before .before .before .before .if1 .left) (c .before .before .read-in .ensures .holds))))

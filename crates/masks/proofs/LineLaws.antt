@@ -1,0 +1,42 @@
+-- A register's writable bits are the byte of its line that its index names: one argument for every group.
+use Prim.Native.Nat.{ℕ, zero, suc, _+_, _*_, _-_, _/_, _%_, _^_, _<_, _≤_}
+use native.Mathlib.Omega.{arith}
+use mathlib.Core.Path.{_≡_, refl, ap, sym, _∙_}
+use lib.Pow.{shr-shr}
+use Rattle.registers.specs.Groups.{numberOf, groupAt, writableOf}
+use Rattle.registers.specs.declared.Group.{Group}
+use Rattle.registers.proofs.TableLaws.{group-numbered, byte-rows}
+use Rattle.masks.specs.Table.{packed, lineOf}
+
+-- byte j of those that are packed, d before the last
+pub packed-at : (f : ℕ → ℕ) → ((j : ℕ) → f j < 256) → (d j n : ℕ) → d + j ≡ n → packed f (suc n) / 2 ^ (8 * d) % 256 ≡ f j
+unfolding packed
+packed-at f h zero j n e = let w : j ≡ n = omega arith in let b = h n in rw w (omega arith)
+packed-at f h (suc d) j zero e = absurd (omega arith)
+packed-at f h (suc d) j (suc n) e =
+    let more : 8 * suc d ≡ 8 + 8 * d = omega arith in
+    let b = h (suc n) in
+    let cut : (packed f (suc n) * 256 + f (suc n)) / 2 ^ 8 ≡ packed f (suc n) = omega arith in
+    ap (λ (x : ℕ). packed f (suc (suc n)) / 2 ^ x % 256) more
+    ∙ ap (λ (x : ℕ). x % 256) (sym (shr-shr (packed f (suc (suc n))) 8 (8 * d)) ∙ ap (λ (x : ℕ). x / 2 ^ (8 * d)) cut)
+    ∙ packed-at f h d j n (omega arith)
+
+pub by-number : (g : Group) (n i : ℕ) → numberOf g ≡ n → writableOf g i ≡ writableOf (groupAt n) i
+by-number g n i e = ap (λ (h : Group). writableOf h i) (sym (group-numbered g) ∙ ap groupAt e)
+
+pub in-line : (g : Group) (i : ℕ) → i < 256 → lineOf (32 * numberOf g + i / 8) / 2 ^ (8 * (7 - i % 8)) % 256 ≡ writableOf g i
+unfolding lineOf
+in-line g i h =
+    let table : (32 * numberOf g + i / 8) / 32 ≡ numberOf g = omega arith in
+    let place : 8 * ((32 * numberOf g + i / 8) % 32) + i % 8 ≡ i = omega arith in
+    packed-at (λ j. writableOf (groupAt ((32 * numberOf g + i / 8) / 32)) (8 * ((32 * numberOf g + i / 8) % 32) + j)) (λ j. byte-rows _ _ .0) (7 - i % 8) (i % 8) 7 (omega arith)
+    ∙ rw (table, group-numbered g, place)
+
+-- the number is none of those below n: what a match says in its last arm
+abbrev pub NotBelow : ℕ → ℕ → Type 0
+NotBelow k zero = Unit {0}
+NotBelow k (suc n) = NotBelow k n × (k ≡ n → ⊥)
+
+pub passed : (k n : ℕ) → NotBelow k n → n ≤ k
+passed k zero h = omega arith
+passed k (suc n) h = let w : n ≤ k = passed k n (h .0) in let ne : k ≡ n → ⊥ = h .1 in omega arith

@@ -1,0 +1,26 @@
+-- By the group.
+use native.Mathlib.Omega.{arith}
+use borrow.Author.Needs.{needs}
+use Rattle.masks.proofs.number.Statement.{statement}
+use Rattle.masks.proofs.number.Tie as tie
+
+pub number-spec : {M : Type 1} → statement M
+number-spec =
+    tie.close
+    (tie.spec
+    (λ c. search needs)
+    (λ c. search needs)
+    (λ c. search needs)
+    (λ c. search needs)
+    (λ c. search needs)
+    (λ c. search needs)
+    (λ c. search needs)
+    (λ c. search needs)
+    (λ c. (rw (c .enum-told .given .1), omega arith))
+    (λ c. (rw (c .enum-told2 .given .1), omega arith))
+    (λ c. (rw (c .enum-told3 .given .1), omega arith))
+    (λ c. (rw (c .enum-told4 .given .1), omega arith))
+    (λ c. (rw (c .enum-told5 .given .1), omega arith))
+    (λ c. (rw (c .enum-told6 .given .1), omega arith))
+    (λ c. (rw (c .enum-told7 .given .1), omega arith))
+    (λ c. (rw (c .enum-told8 .given .1), omega arith)))
