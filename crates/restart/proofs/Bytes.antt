@@ -9,12 +9,13 @@ use lib.Seq.{ext-getD, getD-set-same, getD-set-other}
 use native.Mathlib.Omega.{arith}
 use borrow.Author.Tests.{lt-ltb, le-ltb, ne-eqb, eqb-true, eqb-false}
 use Rattle.registers.specs.declared.Group.the-variants.{Cr, Sr, Gr, Xr, Fr, Mr, Msr, Palmask}
+use Rattle.registers.specs.Groups.{groupAt}
 use Rattle.chip.specs.Palette.{rgb}
 use Rattle.chip.specs.Reset.{resetByte, filled, reset}
 use Rattle.chip.proofs.ResetLaws.{length-filled, register-reset}
 use Rattle.state.specs.Layout.{start, size, whole, cell, rows, view, spare, Holds}
 use Rattle.state.proofs.Stores.{rows-at}
-use Rattle.restart.specs.Fresh.{groupOf, freshByte}
+use Rattle.restart.specs.Fresh.{freshByte}
 
 length-rows : {A : Type 0} (f : ℕ → A) (n : ℕ) → length (rows f n) ≡ n
 unfolding rows
@@ -41,7 +42,7 @@ each-next f l k v h e each j w = go (eqb j k) refl
     go false x = let n = eqb-false j k x in getD-set-other l k j v 0 n ∙ each j (omega arith)
 
 module _ (first second : ℕ) (l : List ℕ) (n : length l ≡ whole) (each : (k : ℕ) → k < whole → getD l k 0 ≡ freshByte first second k) where
-  in-table : (q : ℕ) → q < 6 → (k : ℕ) → k < 256 → getD l (256 * q + k) 0 ≡ resetByte first second (groupOf q) k
+  in-table : (q : ℕ) → q < 6 → (k : ℕ) → k < 256 → getD l (256 * q + k) 0 ≡ resetByte first second (groupAt q) k
   unfolding freshByte
   in-table q h k w =
       let t : 256 * q + k < 1536 = omega arith in
@@ -55,10 +56,10 @@ module _ (first second : ℕ) (l : List ℕ) (n : length l ≡ whole) (each : (k
 
   -- a table, at a literal number
   table : (q : ℕ) → q < 6 → start q ≡ 256 * q → size q ≡ 256 → (t : List ℕ) → length t ≡ 256
-      → ((k : ℕ) → k < 256 → getD t k 0 ≡ resetByte first second (groupOf q) k) → rows (cell l q) 256 ≡ t
+      → ((k : ℕ) → k < 256 → getD t k 0 ≡ resetByte first second (groupAt q) k) → rows (cell l q) 256 ≡ t
   unfolding cell
   table q h s z t size at =
-      rows-filled (cell l q) (resetByte first second (groupOf q)) 256 t size at
+      rows-filled (cell l q) (resetByte first second (groupAt q)) 256 t size at
       (λ k w. rw (z, lt-ltb k 256 w, s) (in-table q h k w))
 
   black : (e : ℕ) → e < 256 → rgb (cell l 6 (3 * e)) (cell l 6 (3 * e + 1)) (cell l 6 (3 * e + 2)) ≡ rgb 0 0 0
@@ -85,7 +86,7 @@ module _ (first second : ℕ) (l : List ℕ) (n : length l ≡ whole) (each : (k
   palmask-at = each 2305 (omega arith)
 
   pub fresh-view : view l ≡ reset first second
-  unfolding view cell reset
+  unfolding view cell reset groupAt
   fresh-view = λ i. record {
     cr = table 0 (omega arith) refl refl (filled (resetByte first second Cr) 256) (length-filled (resetByte first second Cr) 256) (λ k w. register-reset first second Cr k w) i;
     sr = table 1 (omega arith) refl refl (filled (resetByte first second Sr) 256) (length-filled (resetByte first second Sr) 256) (λ k w. register-reset first second Sr k w) i;

@@ -4,10 +4,11 @@
 ghost use mathlib.Core.Path.{_≡_};
 ghost use Prim.Native.Nat.{_<_};
 ghost use lib.ListN.{length};
+ghost use Rattle.registers.specs.Groups.{groupAt};
 ghost use Rattle.chip.specs.Reset.{reset as resetOf};
 ghost use Rattle.state.specs.Layout.{whole, Holds};
 ghost use Rattle.state.specs.Accesses.{Left};
-ghost use Rattle.restart.specs.Fresh.{groupOf, freshByte, restartAnswer};
+ghost use Rattle.restart.specs.Fresh.{freshByte, restartAnswer};
 use chip::after_reset;
 use registers::Group;
 use state::access::STATE;
@@ -19,9 +20,9 @@ pub enum Restarted {
     Length,
 }
 
-// The group of a table, by its number.
-fn group_of(q: usize) -> Group
-    ensures { λ r. ⌜ r ≡ groupOf q ⌝ }
+// The group of a number.
+fn group_at(q: usize) -> Group
+    ensures { λ r. ⌜ r ≡ groupAt q ⌝ }
 {
     if q == 0 {
         return Group::Cr;
@@ -38,7 +39,13 @@ fn group_of(q: usize) -> Group
     if q == 4 {
         return Group::Fr;
     }
-    Group::Mr
+    if q == 5 {
+        return Group::Mr;
+    }
+    if q == 6 {
+        return Group::Msr;
+    }
+    Group::Palmask
 }
 
 // Byte k of a state after a reset.
@@ -46,7 +53,7 @@ fn fresh(k: usize, first: u8, second: u8) -> u8
     ensures { λ r. ⌜ r ≡ freshByte first second k ⌝ }
 {
     if k < 1536 {
-        return after_reset(group_of(k / 256), (k % 256) as u8, first, second);
+        return after_reset(group_at(k / 256), (k % 256) as u8, first, second);
     }
     if k == 2304 {
         return after_reset(Group::Msr, 0x00, first, second);

@@ -11,7 +11,7 @@ use Rattle.state.specs.declared.access.Written.the-variants.{Answered as
 use Rattle.state.specs.declared.access.Seen.{Seen}
 use Rattle.state.specs.declared.access.Seen.the-variants.{Answered as ReadAnswered, Length as ReadLength}
 
--- the answer of a number
+-- the answer of a port access by its number: 0 done, 1 not listed, 2 ports closed. An access gives no other number
 abbrev pub answerOf : ℕ → Answer
 answerOf n = cond (eqb n 0) Done (cond (eqb n 1) Unlisted Closed)
 
