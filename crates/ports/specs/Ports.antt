@@ -1,12 +1,13 @@
 -- The ports and where they lead. Document 01, "Ports": the table of groups, the palette's ports, and MSR bit 0, which picks
--- the CR pair: 1 is 3D4h and 3D5h, 0 is 3B4h and 3B5h.
+-- the CR pair: 1 is 3D4h and 3D5h, 0 is 3B4h and 3B5h. Document 02, P1, with chapter 12 of the databook: 3C0h takes the attribute
+-- index and data by turns, 3C1h reads the data, and input status 1 is read at 3DAh or 3BAh, by the same bit.
 use Prim.Native.Nat.{ℕ}
 use mathlib.Core.Bool.{Bool, cond, not}
 use mathlib.Core.List.{List, [], _∷_}
 use lib.Dec.{eqb}
 use Rattle.ports.specs.declared.Target.{Target}
-use Rattle.ports.specs.declared.Target.the-variants.{Index, Data, ReadIndex, WriteIndex, Paldata, NotPicked, NotListed}
-use Rattle.registers.specs.declared.Group.the-variants.{Cr, Sr, Gr, Xr, Fr, Mr, Msr, Palmask}
+use Rattle.ports.specs.declared.Target.the-variants.{Index, Data, ReadIndex, WriteIndex, Paldata, Attribute, Status, NotPicked, NotListed}
+use Rattle.registers.specs.declared.Group.the-variants.{Cr, Sr, Gr, Xr, Fr, Mr, Msr, Palmask, Ar}
 
 -- a port, and where it leads when it is written (true) or read (false)
 pub record Port : Type 0 where
@@ -22,7 +23,7 @@ writeOnly p t = record { number = p; leads = λ write. cond write t NotListed }
 abbrev pub readOnly : ℕ → Target → Port
 readOnly p t = record { number = p; leads = λ write. cond write NotListed t }
 
--- a port of a CR pair, which leads somewhere while the pair is picked
+-- a port that leads somewhere while MSR bit 0 picks it
 abbrev pub while : Bool → Target → Target
 while picked t = cond picked t NotPicked
 
@@ -49,6 +50,10 @@ ports colour =
     ∷ both 0x3C7 ReadIndex
     ∷ both 0x3C8 WriteIndex
     ∷ both 0x3C9 Paldata
+    ∷ both 0x3C0 Attribute
+    ∷ readOnly 0x3C1 (Data Ar)
+    ∷ readOnly 0x3BA (while (not colour) Status)
+    ∷ readOnly 0x3DA (while colour Status)
     ∷ []
 
 abbrev pub targetIn : List Port → Bool → ℕ → Target

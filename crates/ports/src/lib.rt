@@ -1,4 +1,5 @@
-// Where each of the 65,536 port numbers leads, in both directions. Document 01, "Ports".
+// Where each of the 65,536 port numbers leads, in both directions. Document 01, "Ports", and document 02, P1, for
+// the attribute registers.
 // What an access then does is crate `chip`'s.
 ghost use mathlib.Core.Path.{_≡_};
 ghost use Rattle.ports.specs.Ports.{target};
@@ -16,7 +17,11 @@ pub enum Target {
     WriteIndex,
     // 3C9h.
     Paldata,
-    // The CR pair that MSR bit 0 does not pick.
+    // 3C0h: the attribute index and the attribute data by turns when written, the index when read.
+    Attribute,
+    // 3BAh or 3DAh, read: input status 1, which returns the turn to the index. No write leads there.
+    Status,
+    // The CR pair or the status port that MSR bit 0 does not pick.
     NotPicked,
     // A port, or a direction of it, that the table does not have.
     NotListed,
@@ -36,6 +41,19 @@ pub fn leads_to(colour: bool, write: bool, port: u16) -> Target
             Target::NotPicked
         } else {
             Target::Data(Group::Cr)
+        },
+        0x3BA => if write {
+            Target::NotListed
+        } else if colour {
+            Target::NotPicked
+        } else {
+            Target::Status
+        },
+        0x3C0 => Target::Attribute,
+        0x3C1 => if write {
+            Target::NotListed
+        } else {
+            Target::Data(Group::Ar)
         },
         0x3C2 => if write {
             Target::Data(Group::Msr)
@@ -71,6 +89,13 @@ pub fn leads_to(colour: bool, write: bool, port: u16) -> Target
         },
         0x3D6 => Target::Index(Group::Xr),
         0x3D7 => Target::Data(Group::Xr),
+        0x3DA => if write {
+            Target::NotListed
+        } else if colour {
+            Target::Status
+        } else {
+            Target::NotPicked
+        },
         _ => Target::NotListed,
     }
 }

@@ -12,6 +12,7 @@ use Rattle.registers.specs.Rows.{Register, rowIn}
 use Rattle.registers.specs.CrtController.{CR}
 use Rattle.registers.specs.Sequencer.{SR}
 use Rattle.registers.specs.Graphics.{GR}
+use Rattle.registers.specs.Attribute.{AR}
 use Rattle.registers.specs.Extension.{XR}
 use Rattle.registers.specs.FlatPanel.{FR}
 use Rattle.registers.specs.Multimedia.{MR}
@@ -19,7 +20,7 @@ use Rattle.registers.specs.Groups.{numberOf, groupAt, rowOf, writableIn,
 use Rattle.registers.specs.declared.Row.{Row}
 use Rattle.registers.specs.declared.Row.the-variants.{Listed}
 use Rattle.registers.specs.declared.Group.{Group}
-use Rattle.registers.specs.declared.Group.the-variants.{Cr, Sr, Gr, Xr, Fr, Mr, Msr, Palmask}
+use Rattle.registers.specs.declared.Group.the-variants.{Cr, Sr, Gr, Xr, Fr, Mr, Msr, Palmask, Ar}
 use Rattle.lists.proofs.Tests.{and-both}
 
 -- from a table's second row on, each index is above the one before it
@@ -56,6 +57,10 @@ pub GR-table : Table GR 9
 unfolding GR
 GR-table = record { registers = refl; order = refl; numbers = refl }
 
+pub AR-table : Table AR 21
+unfolding AR
+AR-table = record { registers = refl; order = refl; numbers = refl }
+
 pub XR-table : Table XR 88
 unfolding XR
 XR-table = record { registers = refl; order = refl; numbers = refl }
@@ -79,6 +84,7 @@ group-numbered Fr = refl
 group-numbered Mr = refl
 group-numbered Msr = refl
 group-numbered Palmask = refl
+group-numbered Ar = refl
 
 -- the writable bits and the reset byte of a row are bytes
 abbrev pub Bytes : Row → Type 0
@@ -106,3 +112,4 @@ byte-rows Fr i = row-bytes FR i (FR-table .numbers)
 byte-rows Mr i = row-bytes MR i (MR-table .numbers)
 byte-rows Msr i = (omega arith, omega arith)
 byte-rows Palmask i = (omega arith, omega arith)
+byte-rows Ar i = row-bytes AR i (AR-table .numbers)

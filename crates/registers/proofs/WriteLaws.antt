@@ -14,7 +14,7 @@ use Rattle.registers.specs.CrtController.{CR}
 use Rattle.registers.specs.Groups.{rowOf, writableOf}
 use Rattle.registers.specs.WriteRule.{leftOpen, writableNow, written}
 use Rattle.registers.specs.declared.Group.{Group}
-use Rattle.registers.specs.declared.Group.the-variants.{Cr}
+use Rattle.registers.specs.declared.Group.the-variants.{Cr, Ar}
 use Rattle.lists.specs.Scan.{every}
 use Rattle.lists.proofs.Scan.{every-at}
 use Rattle.registers.proofs.TableLaws.{byte-rows}
@@ -89,3 +89,8 @@ CR00-to-CR06-locked i h = rw (lt-ltb _ _ h) (and-zero-r (writableOf Cr i))
 pub CR07-bit-4-open : writableNow Cr true 0x07 ≡ 0x10
 unfolding writableNow leftOpen rowOf CR
 CR07-bit-4-open = refl
+
+-- with the picture on, AR00 to AR0F have no writable bit
+pub AR00-to-AR0F-locked : (i : ℕ) → i < 0x10 → writableNow Ar true i ≡ 0x00
+unfolding writableNow leftOpen
+AR00-to-AR0F-locked i h = rw (lt-ltb _ _ h) (and-zero-r (writableOf Ar i))

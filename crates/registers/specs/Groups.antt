@@ -1,21 +1,22 @@
--- The groups and the row of each register. Document 01, "Ports" (the numbers of the groups) and "Registers".
+-- The groups and the row of each register. Document 01, "Ports" (the numbers of the groups) and "Registers"; AR is document 02's, P1.
 -- MSR is chapter 8's, PALMASK chapter 13's: one register each, at whatever index.
 use Prim.Native.Nat.{ℕ}
-use mathlib.Core.Bool.{Bool, cond}
+use mathlib.Core.Bool.{Bool, true, false, cond}
 use lib.Dec.{eqb}
 use Rattle.registers.specs.Rows.{rowIn}
 use Rattle.registers.specs.CrtController.{CR}
 use Rattle.registers.specs.Sequencer.{SR}
 use Rattle.registers.specs.Graphics.{GR}
+use Rattle.registers.specs.Attribute.{AR}
 use Rattle.registers.specs.Extension.{XR}
 use Rattle.registers.specs.FlatPanel.{FR}
 use Rattle.registers.specs.Multimedia.{MR}
 use Rattle.registers.specs.declared.Group.{Group}
-use Rattle.registers.specs.declared.Group.the-variants.{Cr, Sr, Gr, Xr, Fr, Mr, Msr, Palmask}
+use Rattle.registers.specs.declared.Group.the-variants.{Cr, Sr, Gr, Xr, Fr, Mr, Msr, Palmask, Ar}
 use Rattle.registers.specs.declared.Row.{Row}
 use Rattle.registers.specs.declared.Row.the-variants.{Listed, Unlisted}
 
--- document 01's number of a group
+-- the number of a group: document 01's, and 8 for AR
 abbrev pub numberOf : Group → ℕ
 numberOf Cr = 0
 numberOf Sr = 1
@@ -25,16 +26,29 @@ numberOf Fr = 4
 numberOf Mr = 5
 numberOf Msr = 6
 numberOf Palmask = 7
+numberOf Ar = 8
 
--- the group of a number, 0 to 7; a number above 7 is no group's
+-- the group of a number, 0 to 8; a number above 8 is no group's
 unfoldable pub groupAt : ℕ → Group
 groupAt k =
     cond (eqb k 0) Cr (cond (eqb k 1) Sr (cond (eqb k 2) Gr (cond (eqb k 3) Xr
-    (cond (eqb k 4) Fr (cond (eqb k 5) Mr (cond (eqb k 6) Msr Palmask))))))
+    (cond (eqb k 4) Fr (cond (eqb k 5) Mr (cond (eqb k 6) Msr (cond (eqb k 7) Palmask Ar)))))))
 
 -- whether two groups are the same
 abbrev pub is : Group → Group → Bool
 is g h = eqb (numberOf g) (numberOf h)
+
+-- whether a group has an index; MSR and PALMASK are one register each
+abbrev pub isIndexed : Group → Bool
+isIndexed Cr = true
+isIndexed Sr = true
+isIndexed Gr = true
+isIndexed Xr = true
+isIndexed Fr = true
+isIndexed Mr = true
+isIndexed Msr = false
+isIndexed Palmask = false
+isIndexed Ar = true
 
 unfoldable pub rowOf : Group → ℕ → Row
 rowOf Cr i = rowIn CR i
@@ -45,6 +59,7 @@ rowOf Fr i = rowIn FR i
 rowOf Mr i = rowIn MR i
 rowOf Msr i = Listed 0xEF 0x00
 rowOf Palmask i = Listed 0xFF 0x00
+rowOf Ar i = rowIn AR i
 
 -- an unlisted index ignores writes and reads 00h
 abbrev pub writableIn : Row → ℕ

@@ -3,6 +3,7 @@ pub mod Rows
 pub mod CrtController
 pub mod Sequencer
 pub mod Graphics
+pub mod Attribute
 pub mod Extension
 pub mod FlatPanel
 pub mod Multimedia

@@ -1,5 +1,5 @@
 -- What a register's row is, and the row that a table has at an index. Document 01, "Registers".
--- The tables themselves stand a chapter a file: CrtController, Sequencer, Graphics, Extension, FlatPanel, Multimedia.
+-- The tables themselves stand a chapter a file: CrtController, Sequencer, Graphics, Attribute, Extension, FlatPanel, Multimedia.
 use Prim.Native.Nat.{ℕ}
 use Prim.Native.String.{String}
 use mathlib.Core.Bool.{cond}

@@ -1,6 +1,7 @@
 // The registers of the chip as numbers: which there are, which of their bits can be written, what a
 // reset leaves in them, and what a write makes of a byte. Document 01, "Registers"; the rows are those
-// of chapters 9 to 11 and 14 to 16 of the databook, MSR by chapter 8 and PALMASK by chapter 13.
+// of chapters 9 to 12 and 14 to 16 of the databook, MSR by chapter 8 and PALMASK by chapter 13; AR, the
+// attribute registers of chapter 12, is document 02's, P1.
 // The chip's state is not here: crate `chip` holds it.
 ghost use mathlib.Core.Path.{_≡_};
 ghost use Rattle.registers.specs.Groups.{rowOf, writableOf, resetOf};
@@ -8,7 +9,7 @@ ghost use Rattle.registers.specs.WriteRule.{lockedBy, leftOpen, underLoc
 
 mod rows;
 
-// The groups of document 01's table, in the order of their numbers. MSR and PALMASK are groups of one
+// The groups of document 01's table and AR, in the order of their numbers. MSR and PALMASK are groups of one
 // register: whatever index goes with them is not looked at.
 pub enum Group {
     Cr,
@@ -19,6 +20,7 @@ pub enum Group {
     Mr,
     Msr,
     Palmask,
+    Ar,
 }
 
 // A register as its chapter lists it, with its writable bits and its reset byte; or an index that the
@@ -41,6 +43,7 @@ pub fn row_of(g: Group, i: u8) -> Row
         Group::Mr => rows::mr(i),
         Group::Msr => Row::Listed(0xEF, 0x00),
         Group::Palmask => Row::Listed(0xFF, 0x00),
+        Group::Ar => rows::ar(i),
     }
 }
 
@@ -64,9 +67,9 @@ pub fn reset_byte(g: Group, i: u8) -> u8
     }
 }
 
-// Whether a group's lock is on, by the byte of CR11.
-pub fn locked_by(g: Group, cr11: u8) -> bool
-    ensures { λ r. ⌜ r ≡ lockedBy g cr11 ⌝ }
+// Whether a group's lock is on, by the byte of CR11 and by bit 5 of the attribute index.
+pub fn locked_by(g: Group, cr11: u8, picture: bool) -> bool
+    ensures { λ r. ⌜ r ≡ lockedBy g cr11 picture ⌝ }
 {
     match g {
         Group::Cr => cr11 / 128 % 2 == 1,
@@ -77,6 +80,7 @@ pub fn locked_by(g: Group, cr11: u8) -> bool
         Group::Mr => false,
         Group::Msr => false,
         Group::Palmask => false,
+        Group::Ar => picture,
     }
 }
 
@@ -89,6 +93,13 @@ fn left_open_cr(i: u8) -> u8
         0x07 => 0x10,
         _ => 0xFF,
     }
+}
+
+// What the picture leaves open of an AR register.
+fn left_open_ar(i: u8) -> u8
+    ensures { λ r. ⌜ r ≡ leftOpen Group.Ar i ⌝ }
+{
+    if i < 0x10 { 0x00 } else { 0xFF }
 }
 
 // What a group's lock leaves open of a register.
@@ -104,6 +115,7 @@ fn left_open(g: Group, i: u8) -> u8
         Group::Mr => 0xFF,
         Group::Msr => 0xFF,
         Group::Palmask => 0xFF,
+        Group::Ar => left_open_ar(i),
     }
 }
 

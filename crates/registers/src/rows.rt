@@ -1,10 +1,11 @@
-// The rows of the six indexed groups: a match on the index, neighbours that are alike as a range, and the
+// The rows of the seven indexed groups: a match on the index, neighbours that are alike as a range, and the
 // unlisted case as the last arm. Each is the table of its chapter in specs/, at every index.
 ghost use mathlib.Core.Path.{_≡_};
 ghost use Rattle.registers.specs.Rows.{rowIn};
 ghost use Rattle.registers.specs.CrtController.{CR};
 ghost use Rattle.registers.specs.Sequencer.{SR};
 ghost use Rattle.registers.specs.Graphics.{GR};
+ghost use Rattle.registers.specs.Attribute.{AR};
 ghost use Rattle.registers.specs.Extension.{XR};
 ghost use Rattle.registers.specs.FlatPanel.{FR};
 ghost use Rattle.registers.specs.Multimedia.{MR};
@@ -70,6 +71,20 @@ pub fn gr(i: u8) -> Row
         0x05 => Row::Listed(0x7B, 0x00),
         0x06..=0x07 => Row::Listed(0x0F, 0x00),
         0x08 => Row::Listed(0xFF, 0x00),
+        _ => Row::Unlisted,
+    }
+}
+
+// Chapter 12, attribute controller registers.
+pub fn ar(i: u8) -> Row
+    ensures { λ r. ⌜ r ≡ rowIn AR i ⌝ }
+{
+    match i {
+        0x00..=0x0F => Row::Listed(0x3F, 0x00),
+        0x10 => Row::Listed(0xEF, 0x00),
+        0x11 => Row::Listed(0xFF, 0x00),
+        0x12 => Row::Listed(0x3F, 0x00),
+        0x13..=0x14 => Row::Listed(0x0F, 0x00),
         _ => Row::Unlisted,
     }
 }

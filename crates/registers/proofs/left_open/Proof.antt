@@ -1,4 +1,4 @@
--- Only CR has a lock.
+-- CR and AR have a lock.
 use Rattle.registers.specs.WriteRule.{leftOpen}
 use borrow.Author.Needs.{needs}
 use Rattle.registers.proofs.left_open.Statement.{statement}
@@ -18,6 +18,8 @@ left-open-spec =
     (λ c. search needs)
     (λ c. search needs)
     (λ c. search needs)
+    (λ c. search needs)
+    (λ c κs. search needs)
     (λ c. rw (c .before .enum-told .given .1) (c .left-open-cr .ensures))
     (λ c. rw (c .enum-told2 .given .1))
     (λ c. rw (c .enum-told3 .given .1))
@@ -25,4 +27,5 @@ left-open-spec =
     (λ c. rw (c .enum-told5 .given .1))
     (λ c. rw (c .enum-told6 .given .1))
     (λ c. rw (c .enum-told7 .given .1))
-    (λ c. rw (c .enum-told8 .given .1)))
+    (λ c. rw (c .enum-told8 .given .1))
+    (λ c. rw (c .before .enum-told9 .given .1) (c .left-open-ar .ensures)))

@@ -1,4 +1,4 @@
--- Only CR has a lock.
+-- CR and AR have a lock.
 use Rattle.registers.specs.WriteRule.{lockedBy}
 use borrow.Author.Needs.{needs}
 use Rattle.registers.proofs.locked_by.Statement.{statement}
@@ -17,6 +17,7 @@ locked-by-spec =
     (λ c. search needs)
     (λ c. search needs)
     (λ c. search needs)
+    (λ c. search needs)
     (λ c. rw (c .enum-told .given .1))
     (λ c. rw (c .enum-told2 .given .1))
     (λ c. rw (c .enum-told3 .given .1))
@@ -24,4 +25,5 @@ locked-by-spec =
     (λ c. rw (c .enum-told5 .given .1))
     (λ c. rw (c .enum-told6 .given .1))
     (λ c. rw (c .enum-told7 .given .1))
-    (λ c. rw (c .enum-told8 .given .1)))
+    (λ c. rw (c .enum-told8 .given .1))
+    (λ c. rw (c .enum-told9 .given .1)))
