@@ -1,5 +1,6 @@
 -- What port accesses can and cannot do, for every state, port and byte: closed and open ports, data ports as access by name,
--- what a read and a write leave alone, and CR11's protection. The numbers are in NumberLaws, the index ports in IndexLaws.
+-- what a read and a write leave alone, CR11's protection and the picture's. The numbers are in NumberLaws, the index ports in
+-- IndexLaws, the attribute port in AttributeLaws.
 use Prim.Native.Nat.{ℕ, _^_, _<_}
 use native.Mathlib.Nat.{zero-div}
 use borrow.Author.Tests.{eqb-true, ne-eqb}
@@ -10,19 +11,21 @@ use mathlib.Core.Path.{_≡_, refl, ap, _∙_}
 use Rattle.lists.specs.Bits.{bit}
 use Rattle.lists.specs.Scan.{every}
 use Rattle.lists.proofs.Scan.{every-at}
-use Rattle.registers.proofs.WriteLaws.{CR00-to-CR06-locked, CR07-bit-4-open}
+use Rattle.registers.proofs.WriteLaws.{CR00-to-CR06-locked, CR07-bit-4-open, AR00-to-AR0F-locked}
+use Rattle.registers.specs.WriteRule.{lockedBy}
 use Rattle.registers.specs.declared.Group.{Group}
-use Rattle.registers.specs.declared.Group.the-variants.{Cr}
+use Rattle.registers.specs.declared.Group.the-variants.{Cr, Ar}
 use Rattle.ports.specs.Ports.{target}
 use Rattle.ports.specs.declared.Target.{Target}
-use Rattle.ports.specs.declared.Target.the-variants.{Index, Data, ReadIndex, WriteIndex, Paldata, NotPicked, NotListed}
-use Rattle.chip.specs.State.{Named, named, withNamed, withLoading, indexOf}
+use Rattle.ports.specs.declared.Target.the-variants.{Index, Data, ReadIndex, WriteIndex, Paldata, Attribute, Status, NotPicked, NotListed}
+use Rattle.chip.specs.State.{Named, named, withNamed, withLoading, withPicture, withTurn, indexOf}
 use Rattle.chip.specs.Names.{register, locked, writableAt, received, portsOpen, colour}
 use Rattle.chip.specs.Palette.{loaded, coloured, moved}
+use Rattle.chip.specs.Attribute.{attributeSet, attributeAimed, turnReturned}
 use Rattle.chip.specs.Access.{writeTo, readFrom, portWritten, portRead, wrote, seen}
 use Rattle.chip.specs.declared.Chip.{Chip}
 use Rattle.chip.specs.declared.access.Answer.the-variants.{Done, Closed}
-use Rattle.chip.proofs.NameLaws.{Bytes, received-bytes, received-keeps-bit, coloured-keeps-register}
+use Rattle.chip.proofs.NameLaws.{Bytes, received-bytes, received-keeps-bit, coloured-keeps-register, picture-keeps-register}
 
 -- where the ports are closed nothing is read and nothing changes
 module _ (c : Chip) (p : ℕ) (shut : portsOpen (named c) ≡ false) where
@@ -61,10 +64,11 @@ write-cases P c p v same at = go (portsOpen (named c))
     go true = at (target (colour (named c)) true p)
     go false = same
 
--- a port read leaves the state or moves the palette's position; so what holds of these two holds after every port read
-pub state-read : (P : Chip → Type 0) (c : Chip) (p : ℕ) → P c → P (withLoading c (moved (c .loading))) → P (portRead c p .chip)
+-- a port read leaves the state, moves the palette's position or returns the turn; so what holds of these three holds after every
+-- port read
+pub state-read : (P : Chip → Type 0) (c : Chip) (p : ℕ) → P c → P (withLoading c (moved (c .loading))) → P (turnReturned c) → P (portRead c p .chip)
 unfolding portRead
-state-read P c p same move = go (portsOpen (named c))
+state-read P c p same move turn = go (portsOpen (named c))
   where
     at : (t : Target) → P (readFrom t c .chip)
     at (Index g) = same
@@ -72,6 +76,8 @@ state-read P c p same move = go (portsOpen (named c))
     at ReadIndex = same
     at WriteIndex = same
     at Paldata = move
+    at Attribute = same
+    at Status = turn
     at NotPicked = same
     at NotListed = same
 
@@ -79,17 +85,23 @@ state-read P c p same move = go (portsOpen (named c))
     go true = at (target (colour (named c)) false p)
     go false = same
 
--- a port read changes nothing but the palette's loading state
-pub read-keeps-all : (c : Chip) (p : ℕ) → (named (portRead c p .chip) ≡ named c) × (portRead c p .chip .indexes ≡ c .indexes)
-read-keeps-all c p = state-read (λ d. (named d ≡ named c) × (d .indexes ≡ c .indexes)) c p (refl, refl) (refl, refl)
+-- a port read changes nothing but the palette's loading state and the turn
+pub read-keeps-all : (c : Chip) (p : ℕ)
+    → (named (portRead c p .chip) ≡ named c) × (withTurn (portRead c p .chip .indexes) false ≡ withTurn (c .indexes) false)
+read-keeps-all c p = state-read (λ d. (named d ≡ named c) × (withTurn (d .indexes) false ≡ withTurn (c .indexes) false)) c p (refl, refl) (refl, refl) (refl, refl)
 
--- what a port write makes of what has a name: the same, a register that received the byte, or a colour stored; so what holds of
--- these three holds after every port write
+-- what a port write makes of what has a name: the same, a register that received the byte, a colour stored, or the picture on or off;
+-- so what holds of these four holds after every port write
 module _ (P : Named → Type 0) (c : Chip) (v : ℕ)
-    (same : P (named c)) (set : (g : Group) → P (received g (named c) (indexOf g (c .indexes)) v)) (store : (e r g b : ℕ) → P (coloured (named c) e r g b)) where
+    (same : P (named c)) (set : (g : Group) → P (received g (named c) (indexOf g (c .indexes)) v)) (store : (e r g b : ℕ) → P (coloured (named c) e r g b))
+    (light : (b : Bool) → P (withPicture (named c) b)) where
   named-loaded : (z : Bool) → P (cond z (coloured (named c) (c .loading .index) (c .loading .red) (c .loading .green) v) (named c))
   named-loaded true = store (c .loading .index) (c .loading .red) (c .loading .green) v
   named-loaded false = same
+
+  named-attribute : (z : Bool) → P (named (cond z (attributeSet c v) (attributeAimed c v)))
+  named-attribute true = set Ar
+  named-attribute false = light _
 
   named-target : (t : Target) → P (named (writeTo t c v .chip))
   unfolding loaded
@@ -98,6 +110,8 @@ module _ (P : Named → Type 0) (c : Chip) (v : ℕ)
   named-target ReadIndex = same
   named-target WriteIndex = same
   named-target Paldata = named-loaded (eqb (c .loading .position) 2)
+  named-target Attribute = named-attribute (c .indexes .turn)
+  named-target Status = same
   named-target NotPicked = same
   named-target NotListed = same
 
@@ -108,7 +122,8 @@ module _ (P : Named → Type 0) (c : Chip) (v : ℕ)
 pub write-bytes : (c : Chip) (p v : ℕ) → v < 0x100 → Bytes (named c) → Bytes (named (portWritten c p v .chip))
 write-bytes c p v hv bytes =
     named-written Bytes c v bytes (λ g. received-bytes g (named c) (indexOf g (c .indexes)) v hv bytes)
-    (λ e r g b h j. rw (coloured-keeps-register h (named c) e r g b j) (bytes h j)) p
+    (λ e r g b h j. rw (coloured-keeps-register h (named c) e r g b j) (bytes h j))
+    (λ b h j. rw (picture-keeps-register h (named c) b j) (bytes h j)) p
 
 -- a port write changes no bit that is not writable at that moment
 pub write-keeps-bit : (c : Chip) (p v k : ℕ) (h : Group) (j : ℕ) → k < 8 → bit k (writableAt h (named c) j) ≡ 0
@@ -116,7 +131,8 @@ pub write-keeps-bit : (c : Chip) (p v k : ℕ) (h : Group) (j : ℕ) → k < 8 �
 write-keeps-bit c p v k h j hk shut =
     named-written (λ n. bit k (register h n j) ≡ bit k (register h (named c) j)) c v refl
     (λ g. received-keeps-bit k g h (named c) (indexOf g (c .indexes)) v j hk shut)
-    (λ e r g b. ap (bit k) (coloured-keeps-register h (named c) e r g b j)) p
+    (λ e r g b. ap (bit k) (coloured-keeps-register h (named c) e r g b j))
+    (λ b. ap (bit k) (picture-keeps-register h (named c) b j)) p
 
 pub zero-bit : (k : ℕ) → bit k 0x00 ≡ 0
 zero-bit k = rw (zero-div (2 ^ k))
@@ -135,3 +151,9 @@ module _ (c : Chip) (p v : ℕ) (lock : locked Cr (named c) ≡ true) where
 
   pub CR07-protected : (k : ℕ) → k < 8 → (k ≡ 4 → ⊥) → bit k (register Cr (named (portWritten c p v .chip)) 0x07) ≡ bit k (register Cr (named c) 0x07)
   CR07-protected k hk other = write-keeps-bit c p v k Cr 0x07 hk (rw (lock, CR07-bit-4-open) (only-bit-4 k hk other))
+
+-- with a picture no port write changes AR00 to AR0F
+pub AR00-to-AR0F-protected : (c : Chip) (p v : ℕ) → c .picture ≡ true → (i k : ℕ) → i < 0x10 → k < 8
+    → bit k (register Ar (named (portWritten c p v .chip)) i) ≡ bit k (register Ar (named c) i)
+unfolding locked lockedBy
+AR00-to-AR0F-protected c p v lit i k hi hk = write-keeps-bit c p v k Ar i hk (rw (lit, AR00-to-AR0F-locked i hi) (zero-bit k))

@@ -1,18 +1,18 @@
 -- The registers of a group as one list, its bank: a table, or the one byte of MSR or PALMASK. What a register's byte is and what
 -- replacing one does, said over the bank and for every group at once; the laws of names rest on these two equations. Then that
--- storing colours leaves every bank, and that groups are told apart by their numbers.
+-- storing colours leaves every bank, as the picture does, and that groups are told apart by their numbers.
 use Prim.Native.Nat.{ℕ, _<_}
 use native.Mathlib.Omega.{arith}
 use mathlib.Core.Bool.{Bool, true, false, cond}
 use mathlib.Core.Path.{_≡_, refl, sym, ap, _∙_}
 use mathlib.Core.List.{List, [], _∷_}
-use lib.Dec.{eqb, ltb}
 use lib.ListN.{getD, set}
 use borrow.Author.Tests.{eqb-true, eq-eqb}
-use Rattle.registers.specs.Groups.{numberOf, is}
+use Rattle.registers.specs.Groups.{numberOf, groupAt, is, isIndexed}
+use Rattle.registers.proofs.TableLaws.{group-numbered}
 use Rattle.registers.specs.declared.Group.{Group}
-use Rattle.registers.specs.declared.Group.the-variants.{Cr, Sr, Gr, Xr, Fr, Mr, Msr, Palmask}
-use Rattle.chip.specs.State.{Named}
+use Rattle.registers.specs.declared.Group.the-variants.{Cr, Sr, Gr, Xr, Fr, Mr, Msr, Palmask, Ar}
+use Rattle.chip.specs.State.{Named, withPicture}
 use Rattle.chip.specs.Names.{register, replaced}
 use Rattle.chip.specs.Palette.{withPalette}
 use Rattle.chip.specs.declared.Rgb.{Rgb}
@@ -26,17 +26,18 @@ bank Fr n = n .fr
 bank Mr n = n .mr
 bank Msr n = n .msr ∷ []
 bank Palmask n = n .palmask ∷ []
+bank Ar n = n .ar
 
 -- the place in the bank: the index, where the group has one
 abbrev pub place : Group → ℕ → ℕ
-place g i = cond (ltb (numberOf g) 6) i 0
+place g i = cond (isIndexed g) i 0
 
 -- how many registers a bank has room for
 abbrev pub room : Group → ℕ
-room g = cond (ltb (numberOf g) 6) 256 1
+room g = cond (isIndexed g) 256 1
 
 pub place-room : (g : Group) (i : ℕ) → i < 0x100 → place g i < room g
-place-room g i h = go (ltb (numberOf g) 6)
+place-room g i h = go (isIndexed g)
   where
     go : (z : Bool) → cond z i 0 < cond z 256 1
     go true = h
@@ -51,6 +52,7 @@ register-bank Fr n i = refl
 register-bank Mr n i = refl
 register-bank Msr n i = refl
 register-bank Palmask n i = refl
+register-bank Ar n i = refl
 
 one-byte : (z : Bool) (x b : ℕ) → _≡_ {A = List ℕ} (cond z b x ∷ []) (cond z (set (x ∷ []) 0 b) (x ∷ []))
 one-byte true x b = refl
@@ -65,6 +67,7 @@ bank-replaced Fr g n i b = refl
 bank-replaced Mr g n i b = refl
 bank-replaced Msr g n i b = one-byte (is g Msr) (n .msr) b
 bank-replaced Palmask g n i b = one-byte (is g Palmask) (n .palmask) b
+bank-replaced Ar g n i b = refl
 
 pub bank-colours : (h : Group) (n : Named) (colours : List Rgb) → bank h (withPalette n colours) ≡ bank h n
 bank-colours Cr n colours = refl
@@ -75,25 +78,22 @@ bank-colours Fr n colours = refl
 bank-colours Mr n colours = refl
 bank-colours Msr n colours = refl
 bank-colours Palmask n colours = refl
+bank-colours Ar n colours = refl
+
+pub bank-picture : (h : Group) (n : Named) (b : Bool) → bank h (withPicture n b) ≡ bank h n
+bank-picture Cr n b = refl
+bank-picture Sr n b = refl
+bank-picture Gr n b = refl
+bank-picture Xr n b = refl
+bank-picture Fr n b = refl
+bank-picture Mr n b = refl
+bank-picture Msr n b = refl
+bank-picture Palmask n b = refl
+bank-picture Ar n b = refl
 
 pub is-self : (g : Group) → is g g ≡ true
 is-self g = eq-eqb (numberOf g) (numberOf g) refl
 
 -- groups with one number are one group
-abbrev numbered : ℕ → Group
-numbered k =
-    cond (eqb k 0) Cr (cond (eqb k 1) Sr (cond (eqb k 2) Gr (cond (eqb k 3) Xr
-    (cond (eqb k 4) Fr (cond (eqb k 5) Mr (cond (eqb k 6) Msr Palmask))))))
-
-numbered-of : (g : Group) → numbered (numberOf g) ≡ g
-numbered-of Cr = refl
-numbered-of Sr = refl
-numbered-of Gr = refl
-numbered-of Xr = refl
-numbered-of Fr = refl
-numbered-of Mr = refl
-numbered-of Msr = refl
-numbered-of Palmask = refl
-
 pub is-same : (g h : Group) → is g h ≡ true → g ≡ h
-is-same g h e = sym (numbered-of g) ∙ ap numbered (eqb-true (numberOf g) (numberOf h) e) ∙ numbered-of h
+is-same g h e = sym (group-numbered g) ∙ ap groupAt (eqb-true (numberOf g) (numberOf h) e) ∙ group-numbered h

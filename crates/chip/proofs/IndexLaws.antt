@@ -1,4 +1,4 @@
--- The index registers. Document 01, "Ports": index ports can be read, and all six keep eight bits. An index reads back what was
+-- The six index registers with a port of their own. Document 01, "Ports": index ports can be read, and all six keep eight bits. An index reads back what was
 -- written to it, and a write to one leaves the others: over the indexes first, then through the ports. And an index and then a
 -- byte through the ports are a write by name.
 use Prim.Native.Nat.{ℕ, _<_}
@@ -11,11 +11,11 @@ use borrow.Author.Tests.{ne-eqb, ltb-true}
 use Rattle.registers.specs.Groups.{numberOf, is}
 use Rattle.lists.proofs.Tests.{and-both}
 use Rattle.registers.specs.declared.Group.{Group}
-use Rattle.registers.specs.declared.Group.the-variants.{Cr, Sr, Gr, Xr, Fr, Mr, Msr, Palmask}
+use Rattle.registers.specs.declared.Group.the-variants.{Cr, Sr, Gr, Xr, Fr, Mr, Msr, Palmask, Ar}
 use Rattle.ports.specs.Ports.{Port, ports, targetIn, target}
 use Rattle.ports.specs.declared.Target.{Target}
-use Rattle.ports.specs.declared.Target.the-variants.{Index, Data, ReadIndex, WriteIndex, Paldata, NotPicked, NotListed}
-use Rattle.chip.specs.State.{named, join, withIndexes, indexOf, withIndex}
+use Rattle.ports.specs.declared.Target.the-variants.{Index, Data, ReadIndex, WriteIndex, Paldata, Attribute, Status, NotPicked, NotListed}
+use Rattle.chip.specs.State.{named, join, withIndexes, withTurn, indexOf, withIndex}
 use Rattle.chip.specs.Names.{received, portsOpen, colour}
 use Rattle.chip.specs.Access.{portWritten, portRead, wrote, seen}
 use Rattle.chip.specs.declared.Chip.{Chip}
@@ -24,7 +24,7 @@ use Rattle.chip.specs.declared.access.Answer.the-variants.{Done}
 use Rattle.chip.specs.declared.access.Seen.{Seen}
 use Rattle.chip.proofs.AccessLaws.{write-open, read-open, write-data}
 
--- an index that was written holds what was written: the six groups that have one are those numbered below 6
+-- an index that was written holds what was written: the six groups that have an index port are those numbered below 6
 pub index-same : (g : Group) (x : Indexes) (v : ℕ) → numberOf g < 6 → indexOf g (withIndex g x v) ≡ v
 index-same Cr x v h = refl
 index-same Sr x v h = refl
@@ -34,6 +34,7 @@ index-same Fr x v h = refl
 index-same Mr x v h = refl
 index-same Msr x v h = absurd (omega arith)
 index-same Palmask x v h = absurd (omega arith)
+index-same Ar x v h = absurd (omega arith)
 
 -- the other groups' indexes stay
 pub index-other : (g h : Group) (x : Indexes) (v : ℕ) → (numberOf g ≡ numberOf h → ⊥) → indexOf h (withIndex g x v) ≡ indexOf h x
@@ -48,14 +49,29 @@ index-other g h x v other = go h (ne-eqb (numberOf g) (numberOf h) other)
     go Mr e = rw e
     go Msr e = refl
     go Palmask e = refl
+    go Ar e = rw e
 
--- an index port belongs to a group that has an index
+-- the turn is no index
+pub index-turn : (h : Group) (x : Indexes) (turn : Bool) → indexOf h (withTurn x turn) ≡ indexOf h x
+index-turn Cr x turn = refl
+index-turn Sr x turn = refl
+index-turn Gr x turn = refl
+index-turn Xr x turn = refl
+index-turn Fr x turn = refl
+index-turn Mr x turn = refl
+index-turn Msr x turn = refl
+index-turn Palmask x turn = refl
+index-turn Ar x turn = refl
+
+-- an index port belongs to one of those groups
 abbrev indexed : Target → Bool
 indexed (Index g) = ltb (numberOf g) 6
 indexed (Data g) = true
 indexed ReadIndex = true
 indexed WriteIndex = true
 indexed Paldata = true
+indexed Attribute = true
+indexed Status = true
 indexed NotPicked = true
 indexed NotListed = true
 

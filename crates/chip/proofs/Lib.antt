@@ -1,5 +1,5 @@
--- The laws of this crate: of names (NameLaws), accesses (AccessLaws), numbers (NumberLaws), indexes (IndexLaws), the palette by ports
--- (PaletteLaws), the reset (ResetLaws), sizes (SizeLaws) and reached states (ReachLaws). Banks and Reached are for their proofs.
+-- The laws of this crate: of names (NameLaws), accesses (AccessLaws), numbers (NumberLaws), indexes (IndexLaws), the attribute port
+-- (AttributeLaws), the palette by ports (PaletteLaws), the reset (ResetLaws), sizes (SizeLaws) and reached states (ReachLaws). Banks and Reached are for their proofs.
 -- The other folders have a function's proof each.
 pub mod Reached
 pub mod Banks
@@ -7,6 +7,7 @@ pub mod NameLaws
 pub mod AccessLaws
 pub mod NumberLaws
 pub mod IndexLaws
+pub mod AttributeLaws
 pub mod PaletteLaws
 pub mod ResetLaws
 pub mod ReachLaws

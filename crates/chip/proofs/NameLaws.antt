@@ -13,11 +13,11 @@ use Rattle.registers.specs.Groups.{numberOf, is, rowOf}
 use Rattle.registers.specs.WriteRule.{leftOpen, writableNow, written}
 use Rattle.registers.proofs.WriteLaws.{bit-written, written-byte, byte-now}
 use Rattle.registers.specs.declared.Group.{Group}
-use Rattle.registers.specs.declared.Group.the-variants.{Cr, Sr, Gr, Xr, Fr, Mr, Msr, Palmask}
-use Rattle.chip.specs.State.{Named}
+use Rattle.registers.specs.declared.Group.the-variants.{Cr, Sr, Gr, Xr, Fr, Mr, Msr, Palmask, Ar}
+use Rattle.chip.specs.State.{Named, withPicture}
 use Rattle.chip.specs.Names.{register, replaced, locked, writableAt, received}
 use Rattle.chip.specs.Palette.{coloured}
-use Rattle.chip.proofs.Banks.{bank, place, register-bank, bank-replaced, bank-colours, is-self, is-same}
+use Rattle.chip.proofs.Banks.{bank, place, register-bank, bank-replaced, bank-colours, bank-picture, is-self, is-same}
 
 -- the register has its place in the state: every index below 256 does, where tables hold 256 bytes
 abbrev pub Has : Group → Named → ℕ → Type 0
@@ -99,6 +99,7 @@ writable-place Fr lock i = refl
 writable-place Mr lock i = refl
 writable-place Msr lock i = refl
 writable-place Palmask lock i = refl
+writable-place Ar lock i = refl
 
 -- whatever register receives a byte, no bit changes that is not writable at that moment
 pub received-keeps-bit : (k : ℕ) (g h : Group) (n : Named) (i v j : ℕ) → k < 8 → bit k (writableAt h n j) ≡ 0
@@ -138,3 +139,8 @@ pub coloured-keeps-register : (h : Group) (n : Named) (e r g b i : ℕ) → regi
 unfolding coloured
 coloured-keeps-register h n e r g b i =
     register-bank h (coloured n e r g b) i ∙ ap (λ (l : List ℕ). getD l (place h i) 0) (bank-colours h n _) ∙ sym (register-bank h n i)
+
+-- so does the picture
+pub picture-keeps-register : (h : Group) (n : Named) (b : Bool) (i : ℕ) → register h (withPicture n b) i ≡ register h n i
+picture-keeps-register h n b i =
+    register-bank h (withPicture n b) i ∙ ap (λ (l : List ℕ). getD l (place h i) 0) (bank-picture h n b) ∙ sym (register-bank h n i)

@@ -7,7 +7,7 @@ use mathlib.Core.Path.{_≡_, refl, ap, _∙_}
 use mathlib.Core.Logic.{_↔_}
 use Rattle.ports.specs.Ports.{target}
 use Rattle.ports.specs.declared.Target.{Target}
-use Rattle.ports.specs.declared.Target.the-variants.{Index, Data, ReadIndex, WriteIndex, Paldata, NotPicked, NotListed}
+use Rattle.ports.specs.declared.Target.the-variants.{Index, Data, ReadIndex, WriteIndex, Paldata, Attribute, Status, NotPicked, NotListed}
 use Rattle.chip.specs.State.{named}
 use Rattle.chip.specs.Names.{portsOpen, colour}
 use Rattle.chip.specs.Access.{numberOf, isListed, accessNumber, writeTo, readFrom, portWritten, portRead, wrote, seen}
@@ -25,6 +25,8 @@ target-number (Data g) c v = (refl, refl)
 target-number ReadIndex c v = (refl, refl)
 target-number WriteIndex c v = (refl, refl)
 target-number Paldata c v = (refl, refl)
+target-number Attribute c v = (refl, refl)
+target-number Status c v = (refl, refl)
 target-number NotPicked c v = (refl, refl)
 target-number NotListed c v = (refl, refl)
 
@@ -34,6 +36,8 @@ not-listed (Data g) h = cc
 not-listed ReadIndex h = cc
 not-listed WriteIndex h = cc
 not-listed Paldata h = cc
+not-listed Attribute h = cc
+not-listed Status h = cc
 not-listed NotPicked h = cc
 not-listed NotListed h = refl
 

@@ -1,6 +1,6 @@
 -- What holds in every state that accesses reach from a reset: bits that are not writable keep the value that the reset gave
 -- them; so the ports stay open or closed, XR08 shows CFG1, and an unlisted index reads 00h. Registers hold bytes, so what
--- CR11 protects bit by bit it protects whole. That each register has its place is in SizeLaws.
+-- CR11 or the picture protects bit by bit it protects whole. That each register has its place is in SizeLaws.
 use Prim.Native.Nat.{ℕ, _<_}
 use native.Mathlib.Omega.{arith}
 use mathlib.Core.Bool.{true}
@@ -10,17 +10,18 @@ use lib.Bits.{bitAnd, or-zero-r, and-mask}
 use Rattle.lists.specs.Bits.{bit, isSet}
 use Rattle.registers.specs.Extension.{XR}
 use Rattle.registers.specs.Groups.{rowOf, writableOf}
-use Rattle.registers.proofs.WriteLaws.{locked-fewer, bit-and, bit-or, same-bits}
+use Rattle.registers.specs.WriteRule.{lockedBy}
+use Rattle.registers.proofs.WriteLaws.{locked-fewer, bit-and, bit-or, same-bits, CR00-to-CR06-locked, AR00-to-AR0F-locked}
 use Rattle.registers.specs.declared.Row.the-variants.{Unlisted}
 use Rattle.registers.specs.declared.Group.{Group}
-use Rattle.registers.specs.declared.Group.the-variants.{Cr, Xr}
+use Rattle.registers.specs.declared.Group.the-variants.{Cr, Xr, Ar}
 use Rattle.chip.specs.State.{Named, named}
-use Rattle.chip.specs.Names.{register, locked, portsOpen}
+use Rattle.chip.specs.Names.{register, locked, writableAt, portsOpen}
 use Rattle.chip.specs.Access.{portWritten}
 use Rattle.chip.specs.Reset.{resetByte}
 use Rattle.chip.specs.Reach.{Reach, fresh, wrote, saw}
 use Rattle.chip.specs.declared.Chip.{Chip}
-use Rattle.chip.proofs.AccessLaws.{zero-bit, write-keeps-bit, write-bytes, read-keeps-all, CR00-to-CR06-protected}
+use Rattle.chip.proofs.AccessLaws.{zero-bit, write-keeps-bit, write-bytes, read-keeps-all}
 use Rattle.chip.proofs.NameLaws.{Bytes}
 use Rattle.chip.proofs.ResetLaws.{register-reset, reset-bytes, reset-unlisted, XR-pins-reset}
 
@@ -71,9 +72,19 @@ unlisted-reads-00 {first} {second} {c} hp hq r g i hi none =
     same-bits (register g (named c) i) 0x00 (reach-bytes hp hq r g i) (omega arith)
     (λ k hk. fixed-bits r g i k hi hk (rw none (zero-bit k)) ∙ ap (bit k) (reset-unlisted first second g i none))
 
--- with CR11 bit 7 set a port write leaves CR00 to CR06, whole
+-- a register without a writable bit at this moment stays whole, whatever is written to whatever port
+pub shut-stays : {first second : ℕ} {c : Chip} → first < 0x100 → second < 0x100 → Reach first second c → (p v : ℕ) → v < 0x100
+    → (g : Group) (i : ℕ) → writableAt g (named c) i ≡ 0x00 → register g (named (portWritten c p v .chip)) i ≡ register g (named c) i
+shut-stays {c = c} hp hq r p v hv g i none =
+    same-bits (register g (named (portWritten c p v .chip)) i) (register g (named c) i) (reach-bytes hp hq (wrote p v hv r) g i) (reach-bytes hp hq r g i)
+    (λ k hk. write-keeps-bit c p v k g i hk (rw none (zero-bit k)))
+
+-- so do CR00 to CR06 with CR11 bit 7 set, and AR00 to AR0F with a picture
 pub CR00-to-CR06-stay : {first second : ℕ} {c : Chip} → first < 0x100 → second < 0x100 → Reach first second c → locked Cr (named c) ≡ true
     → (p v i : ℕ) → v < 0x100 → i < 0x07 → register Cr (named (portWritten c p v .chip)) i ≡ register Cr (named c) i
-CR00-to-CR06-stay {c = c} hp hq r lock p v i hv hi =
-    same-bits (register Cr (named (portWritten c p v .chip)) i) (register Cr (named c) i) (reach-bytes hp hq (wrote p v hv r) Cr i) (reach-bytes hp hq r Cr i)
-    (λ k hk. CR00-to-CR06-protected c p v lock i k hi hk)
+CR00-to-CR06-stay hp hq r lock p v i hv hi = shut-stays hp hq r p v hv Cr i (rw lock (CR00-to-CR06-locked i hi))
+
+pub AR00-to-AR0F-stay : {first second : ℕ} {c : Chip} → first < 0x100 → second < 0x100 → Reach first second c → c .picture ≡ true
+    → (p v i : ℕ) → v < 0x100 → i < 0x10 → register Ar (named (portWritten c p v .chip)) i ≡ register Ar (named c) i
+unfolding locked lockedBy
+AR00-to-AR0F-stay hp hq r lit p v i hv hi = shut-stays hp hq r p v hv Ar i (rw lit (AR00-to-AR0F-locked i hi))

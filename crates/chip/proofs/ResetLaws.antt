@@ -16,7 +16,7 @@ use Rattle.registers.proofs.TableLaws.{byte-rows}
 use Rattle.registers.specs.declared.Row.{Row}
 use Rattle.registers.specs.declared.Row.the-variants.{Listed, Unlisted}
 use Rattle.registers.specs.declared.Group.{Group}
-use Rattle.registers.specs.declared.Group.the-variants.{Cr, Sr, Gr, Xr, Fr, Mr, Msr, Palmask}
+use Rattle.registers.specs.declared.Group.the-variants.{Cr, Sr, Gr, Xr, Fr, Mr, Msr, Palmask, Ar}
 use Rattle.chip.specs.State.{named}
 use Rattle.chip.specs.Names.{register}
 use Rattle.chip.specs.Reset.{resetByte, filled, reset}
@@ -55,6 +55,7 @@ bank-reset p q Fr = refl
 bank-reset p q Mr = refl
 bank-reset p q Msr = filled-one (resetByte p q Msr)
 bank-reset p q Palmask = filled-one (resetByte p q Palmask)
+bank-reset p q Ar = refl
 
 -- MSR and PALMASK have one row, whatever the index
 reset-place : (p q : ℕ) (g : Group) (i : ℕ) → resetByte p q g (place g i) ≡ resetByte p q g i
@@ -67,6 +68,7 @@ reset-place p q Fr i = refl
 reset-place p q Mr i = refl
 reset-place p q Msr i = refl
 reset-place p q Palmask i = refl
+reset-place p q Ar i = refl
 
 -- a register after a reset
 register-filled : (p q : ℕ) (g : Group) (i : ℕ) → register g (named (reset p q)) i ≡ getD (filled (resetByte p q g) (room g)) (place g i) 0

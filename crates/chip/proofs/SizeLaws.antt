@@ -1,7 +1,7 @@
 -- Accesses keep sizes: no table and not the palette gets longer or shorter. So in every state that they reach from a reset each
 -- register with an index below 256 has its place, and the palette has 256 entries: what `received-same`, `received-bit` and
 -- `coloured-same` ask for. No index passes 255 there, so this holds of the register and the entry that an index names.
-use Prim.Native.Nat.{ℕ, _<_}
+use Prim.Native.Nat.{ℕ, _%_, _<_}
 use native.Mathlib.Omega.{arith}
 use mathlib.Core.Bool.{Bool, true, false, cond}
 use mathlib.Core.Path.{_≡_, refl, ap, _∙_}
@@ -11,22 +11,24 @@ use lib.ListN.{length, set, length-set, length-replicate}
 use Rattle.registers.specs.Groups.{is}
 use Rattle.registers.specs.WriteRule.{written}
 use Rattle.registers.specs.declared.Group.{Group}
-use Rattle.registers.specs.declared.Group.the-variants.{Cr, Sr, Gr, Xr, Fr, Mr, Msr, Palmask}
+use Rattle.registers.specs.declared.Group.the-variants.{Cr, Sr, Gr, Xr, Fr, Mr, Msr, Palmask, Ar}
 use Rattle.ports.specs.Ports.{target}
 use Rattle.ports.specs.declared.Target.{Target}
-use Rattle.ports.specs.declared.Target.the-variants.{Index, Data, ReadIndex, WriteIndex, Paldata, NotPicked, NotListed}
-use Rattle.chip.specs.State.{Named, named, indexOf, withIndex}
+use Rattle.ports.specs.declared.Target.the-variants.{Index, Data, ReadIndex, WriteIndex, Paldata, Attribute, Status, NotPicked, NotListed}
+use Rattle.chip.specs.State.{Named, named, withPicture, indexOf, withIndex}
 use Rattle.chip.specs.Names.{register, received, writableAt, portsOpen, colour, eightBit}
 use Rattle.chip.specs.Palette.{rgb, byMode, entry, coloured, held, moved}
+use Rattle.chip.specs.Attribute.{attributeSet, attributeAimed}
 use Rattle.chip.specs.Access.{writeTo, portWritten}
 use Rattle.chip.specs.Reset.{resetByte, reset}
 use Rattle.chip.specs.Reach.{Reach, fresh, wrote, saw}
 use Rattle.chip.specs.declared.Chip.{Chip}
 use Rattle.chip.specs.declared.Indexes.{Indexes}
 use Rattle.chip.specs.declared.Loading.{Loading}
-use Rattle.chip.proofs.Banks.{bank, place, room, place-room, bank-replaced, bank-colours}
+use Rattle.chip.proofs.Banks.{bank, place, room, place-room, bank-replaced, bank-colours, bank-picture}
 use Rattle.chip.proofs.NameLaws.{Has, received-same}
 use Rattle.chip.proofs.AccessLaws.{write-cases, state-read, write-data, named-written, read-keeps-all}
+use Rattle.chip.proofs.IndexLaws.{index-turn}
 use Rattle.chip.proofs.PaletteLaws.{coloured-same, after, colour-by-ports}
 use Rattle.chip.proofs.ResetLaws.{length-filled, bank-reset}
 
@@ -48,12 +50,12 @@ pub length-written : (h : Group) (c : Chip) (p v : ℕ) → length (bank h (name
 unfolding coloured
 length-written h c p v =
     named-written (λ n. length (bank h n) ≡ length (bank h (named c))) c v refl
-    (λ g. length-received h g (named c) (indexOf g (c .indexes)) v) (λ e r g b. ap length (bank-colours h (named c) _)) p
+    (λ g. length-received h g (named c) (indexOf g (c .indexes)) v) (λ e r g b. ap length (bank-colours h (named c) _)) (λ b. ap length (bank-picture h (named c) b)) p
 
 pub length-palette-written : (c : Chip) (p v : ℕ) → length (portWritten c p v .chip .palette) ≡ length (c .palette)
 unfolding received
 length-palette-written c p v =
-    named-written (λ n. length (n .palette) ≡ length (c .palette)) c v refl (λ g. refl) (length-coloured (named c)) p
+    named-written (λ n. length (n .palette) ≡ length (c .palette)) c v refl (λ g. refl) (length-coloured (named c)) (λ b. refl) p
 
 -- the sizes of a reached state
 reach-room : {first second : ℕ} {c : Chip} → Reach first second c → (g : Group) → length (bank g (named c)) ≡ room g
@@ -70,7 +72,7 @@ reach-palette fresh = length-replicate 256 (rgb 0 0 0)
 reach-palette (wrote {c} p v hv r) = length-palette-written c p v ∙ reach-palette r
 reach-palette (saw {c} p r) = ap (λ (n : Named). length (n .palette)) (read-keeps-all c p .0) ∙ reach-palette r
 
--- no index passes 255: the six of the groups, and the palette's
+-- no index passes 255: the seven of the groups, and the palette's
 record Within (c : Chip) : Type 0 where
   groups : (g : Group) → indexOf g (c .indexes) < 0x100
   colours : c .loading .index < 0x100
@@ -88,6 +90,7 @@ index-below g Fr x v new old = either (λ i. i) (is g Fr) v (x .fr) new old
 index-below g Mr x v new old = either (λ i. i) (is g Mr) v (x .mr) new old
 index-below g Msr x v new old = old
 index-below g Palmask x v new old = old
+index-below g Ar x v new old = omega arith
 
 moved-below : (l : Loading) → l .index < 0x100 → moved l .index < 0x100
 moved-below l h = either (λ (m : Loading). m .index) (eqb (l .position) 2) _ _ (omega arith) h
@@ -96,12 +99,21 @@ held-below : (l : Loading) (v : ℕ) → l .index < 0x100 → held l v .index < 
 held-below l v h =
     either (λ (m : Loading). m .index) (eqb (l .position) 2) _ _ h (either (λ (m : Loading). m .index) (eqb (l .position) 1) _ _ h h)
 
+attribute-within : (c : Chip) (v : ℕ) → Within c → (z : Bool) → Within (cond z (attributeSet c v) (attributeAimed c v))
+attribute-within c v w true = record { groups = λ h. rw (index-turn h (c .indexes) false) (w .groups h); colours = w .colours }
+attribute-within c v w false = record {
+  groups = λ h. rw (index-turn h (withIndex Ar (c .indexes) (v % 32)) true) (index-below Ar h (c .indexes) (v % 32) (omega arith) (w .groups h));
+  colours = w .colours;
+}
+
 write-within : (t : Target) (c : Chip) (v : ℕ) → v < 0x100 → Within c → Within (writeTo t c v .chip)
 write-within (Index g) c v hv w = record { groups = λ h. index-below g h (c .indexes) v hv (w .groups h); colours = w .colours }
 write-within (Data g) c v hv w = record { groups = w .groups; colours = w .colours }
 write-within ReadIndex c v hv w = record { groups = w .groups; colours = hv }
 write-within WriteIndex c v hv w = record { groups = w .groups; colours = hv }
 write-within Paldata c v hv w = record { groups = w .groups; colours = moved-below (held (c .loading) v) (held-below (c .loading) v (w .colours)) }
+write-within Attribute c v hv w = attribute-within c v w (c .indexes .turn)
+write-within Status c v hv w = w
 write-within NotPicked c v hv w = w
 write-within NotListed c v hv w = w
 
@@ -118,6 +130,7 @@ fresh-within first second = record { groups = zeros; colours = omega arith }
     zeros Mr = omega arith
     zeros Msr = omega arith
     zeros Palmask = omega arith
+    zeros Ar = omega arith
 
 reach-within : {first second : ℕ} {c : Chip} → Reach first second c → Within c
 reach-within {first} {second} fresh = fresh-within first second
@@ -125,6 +138,7 @@ reach-within (wrote {c} p v hv r) = let w = reach-within r in write-cases Within
 reach-within (saw {c} p r) =
     let w = reach-within r in
     state-read Within c p w (record { groups = w .groups; colours = moved-below (c .loading) (w .colours) })
+    (record { groups = λ h. rw (index-turn h (c .indexes) false) (w .groups h); colours = w .colours })
 
 -- so the register that a data port works on has its place, and the entry that the palette's index names is one of the 256
 pub reach-has-current : {first second : ℕ} {c : Chip} → Reach first second c → (g : Group) → Has g (named c) (indexOf g (c .indexes))

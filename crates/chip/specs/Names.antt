@@ -8,7 +8,7 @@ use Rattle.lists.specs.Bits.{isSet}
 use Rattle.registers.specs.Groups.{is}
 use Rattle.registers.specs.WriteRule.{lockedBy, writableNow, written}
 use Rattle.registers.specs.declared.Group.{Group}
-use Rattle.registers.specs.declared.Group.the-variants.{Cr, Sr, Gr, Xr, Fr, Mr, Msr, Palmask}
+use Rattle.registers.specs.declared.Group.the-variants.{Cr, Sr, Gr, Xr, Fr, Mr, Msr, Palmask, Ar}
 use Rattle.chip.specs.State.{Named}
 
 -- the byte of a register: a read shows stored bits
@@ -21,6 +21,7 @@ register Fr n i = getD (n .fr) i 0
 register Mr n i = getD (n .mr) i 0
 register Msr n i = n .msr
 register Palmask n i = n .palmask
+register Ar n i = getD (n .ar) i 0
 
 -- the same with one register's byte replaced
 abbrev pub replaced : Group → Named → ℕ → ℕ → Named
@@ -31,14 +32,16 @@ replaced g n i b = record {
   xr = cond (is g Xr) (set (n .xr) i b) (n .xr);
   fr = cond (is g Fr) (set (n .fr) i b) (n .fr);
   mr = cond (is g Mr) (set (n .mr) i b) (n .mr);
+  ar = cond (is g Ar) (set (n .ar) i b) (n .ar);
   msr = cond (is g Msr) b (n .msr);
   palmask = cond (is g Palmask) b (n .palmask);
+  picture = n .picture;
   palette = n .palette;
 }
 
--- whether a group's registers are under a lock
+-- whether a group's registers are under a lock: CR11's protection, and for AR the picture
 unfoldable pub locked : Group → Named → Bool
-locked g n = lockedBy g (register Cr n 0x11)
+locked g n = lockedBy g (register Cr n 0x11) (n .picture)
 
 -- the bits of a register that a write can change at this moment
 abbrev pub writableAt : Group → Named → ℕ → ℕ

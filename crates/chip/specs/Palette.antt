@@ -30,8 +30,10 @@ withPalette n p = record {
   xr = n .xr;
   fr = n .fr;
   mr = n .mr;
+  ar = n .ar;
   msr = n .msr;
   palmask = n .palmask;
+  picture = n .picture;
   palette = p;
 }
 

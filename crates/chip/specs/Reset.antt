@@ -2,7 +2,8 @@
 -- 0 made 1, XR71 is the second, XR08 bit 1 shows pin CFG1, which is XR70 bit 1; the palette's entries, its index and the held
 -- bytes are 0; the position is red, and the write index counts as written last. The indexes are 0: of CR, SR, GR and XR the
 -- databook says so where it has their index registers (chapters 9, 10, 11 and 14), and for FR and MR, whose index registers have
--- no page, it is document 01's rule that a reset bit that is not given is 0.
+-- no page, it is document 01's rule that a reset bit that is not given is 0. Document 02, P1: the turn of 3C0h is the index's; chapter 12
+-- gives the attribute index no reset, so all of it is 0, and there is no picture.
 use Prim.Native.Nat.{ℕ, zero, suc}
 use mathlib.Core.Bool.{false, cond}
 use mathlib.Core.List.{List, [], _∷_, _++_}
@@ -11,7 +12,7 @@ use lib.ListN.{replicate}
 use lib.Bits.{bitAnd, bitOr}
 use Rattle.registers.specs.Groups.{is, resetOf}
 use Rattle.registers.specs.declared.Group.{Group}
-use Rattle.registers.specs.declared.Group.the-variants.{Cr, Sr, Gr, Xr, Fr, Mr, Msr, Palmask}
+use Rattle.registers.specs.declared.Group.the-variants.{Cr, Sr, Gr, Xr, Fr, Mr, Msr, Palmask, Ar}
 use Rattle.chip.specs.Palette.{rgb}
 use Rattle.chip.specs.declared.Chip.{Chip}
 
@@ -38,9 +39,11 @@ reset first second = record {
   xr = filled (resetByte first second Xr) 256;
   fr = filled (resetByte first second Fr) 256;
   mr = filled (resetByte first second Mr) 256;
+  ar = filled (resetByte first second Ar) 256;
   msr = resetByte first second Msr 0x00;
   palmask = resetByte first second Palmask 0x00;
+  picture = false;
   palette = replicate 256 (rgb 0 0 0);
-  indexes = record { cr = 0; sr = 0; gr = 0; xr = 0; fr = 0; mr = 0 };
+  indexes = record { cr = 0; sr = 0; gr = 0; xr = 0; fr = 0; mr = 0; ar = 0; turn = false };
   loading = record { index = 0; position = 0; red = 0; green = 0; reading = false };
 }

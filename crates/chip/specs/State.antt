@@ -1,11 +1,12 @@
--- The state in two parts: what has a name (registers and colours), and the rest (the six indexes, the palette's loading
--- state). Document 01, "Ports": the chip state. Every access is said as a change of these parts.
-use Prim.Native.Nat.{ℕ}
-use mathlib.Core.Bool.{cond}
+-- The state in two parts: what has a name (registers and colours, and bit 5 of the attribute index, which decides whether there is a
+-- picture), and the rest (the seven indexes, the turn of 3C0h, the palette's loading state). Document 01, "Ports": the chip state;
+-- document 02, P1: what the attribute registers add. Every access is said as a change of these parts.
+use Prim.Native.Nat.{ℕ, _%_}
+use mathlib.Core.Bool.{Bool, cond}
 use mathlib.Core.List.{List}
 use Rattle.registers.specs.Groups.{is}
 use Rattle.registers.specs.declared.Group.{Group}
-use Rattle.registers.specs.declared.Group.the-variants.{Cr, Sr, Gr, Xr, Fr, Mr, Msr, Palmask}
+use Rattle.registers.specs.declared.Group.the-variants.{Cr, Sr, Gr, Xr, Fr, Mr, Msr, Palmask, Ar}
 use Rattle.chip.specs.declared.Chip.{Chip}
 use Rattle.chip.specs.declared.Rgb.{Rgb}
 use Rattle.chip.specs.declared.Indexes.{Indexes}
@@ -19,8 +20,10 @@ pub record Named : Type 0 where
   pub xr : List ℕ
   pub fr : List ℕ
   pub mr : List ℕ
+  pub ar : List ℕ
   pub msr : ℕ
   pub palmask : ℕ
+  pub picture : Bool
   pub palette : List Rgb
 
 abbrev pub named : Chip → Named
@@ -31,8 +34,10 @@ named c = record {
   xr = c .xr;
   fr = c .fr;
   mr = c .mr;
+  ar = c .ar;
   msr = c .msr;
   palmask = c .palmask;
+  picture = c .picture;
   palette = c .palette;
 }
 
@@ -45,8 +50,10 @@ join n x l = record {
   xr = n .xr;
   fr = n .fr;
   mr = n .mr;
+  ar = n .ar;
   msr = n .msr;
   palmask = n .palmask;
+  picture = n .picture;
   palette = n .palette;
   indexes = x;
   loading = l;
@@ -61,7 +68,23 @@ withIndexes c x = join (named c) x (c .loading)
 abbrev pub withLoading : Chip → Loading → Chip
 withLoading c l = join (named c) (c .indexes) l
 
--- a group's index; MSR and PALMASK have none, and stand at 0
+-- what has a name, with bit 5 of the attribute index replaced
+abbrev pub withPicture : Named → Bool → Named
+withPicture n b = record {
+  cr = n .cr;
+  sr = n .sr;
+  gr = n .gr;
+  xr = n .xr;
+  fr = n .fr;
+  mr = n .mr;
+  ar = n .ar;
+  msr = n .msr;
+  palmask = n .palmask;
+  picture = b;
+  palette = n .palette;
+}
+
+-- a group's index; MSR and PALMASK have none, and stand at 0. Of the attribute index these are the low five bits
 abbrev pub indexOf : Group → Indexes → ℕ
 indexOf Cr x = x .cr
 indexOf Sr x = x .sr
@@ -71,6 +94,7 @@ indexOf Fr x = x .fr
 indexOf Mr x = x .mr
 indexOf Msr x = 0x00
 indexOf Palmask x = 0x00
+indexOf Ar x = x .ar % 32
 
 -- the indexes with one group's replaced
 abbrev pub withIndex : Group → Indexes → ℕ → Indexes
@@ -81,4 +105,19 @@ withIndex g x v = record {
   xr = cond (is g Xr) v (x .xr);
   fr = cond (is g Fr) v (x .fr);
   mr = cond (is g Mr) v (x .mr);
+  ar = cond (is g Ar) v (x .ar);
+  turn = x .turn;
+}
+
+-- the indexes with the turn of 3C0h replaced: true, and data comes next
+abbrev pub withTurn : Indexes → Bool → Indexes
+withTurn x turn = record {
+  cr = x .cr;
+  sr = x .sr;
+  gr = x .gr;
+  xr = x .xr;
+  fr = x .fr;
+  mr = x .mr;
+  ar = x .ar;
+  turn = turn;
 }

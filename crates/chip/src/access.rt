@@ -1,5 +1,5 @@
-// Port reads and writes. Document 01, "Ports" and numbers 0, 1 and 2. A refused access hands back the
-// state as it was.
+// Port reads and writes. Document 01, "Ports" and numbers 0, 1 and 2, and document 02, P1. A refused access hands
+// back the state as it was.
 ghost use mathlib.Core.Bool.{true, false};
 ghost use mathlib.Core.Path.{_≡_};
 ghost use Rattle.chip.specs.State.{named, join, indexOf, withIndex};
@@ -41,7 +41,7 @@ pub fn number(a: Answer) -> u8
 }
 
 impl Chip {
-    // A group's index; MSR and PALMASK have none, and stand at 0.
+    // A group's index; MSR and PALMASK have none, and stand at 0. Of the attribute index it is the low five bits.
     pub fn index(self, g: Group) -> u8
         ensures { λ r. ⌜ r ≡ indexOf g (self .indexes) ⌝ }
     {
@@ -54,6 +54,7 @@ impl Chip {
             Group::Mr => self.indexes.mr,
             Group::Msr => 0x00,
             Group::Palmask => 0x00,
+            Group::Ar => self.indexes.ar % 32,
         }
     }
 
@@ -70,6 +71,7 @@ impl Chip {
             Group::Mr => self.indexes.mr = v,
             Group::Msr => {}
             Group::Palmask => {}
+            Group::Ar => self.indexes.ar = v,
         }
         self
     }
@@ -105,6 +107,14 @@ impl Chip {
             Target::Paldata => Wrote {
                 answer: Answer::Done,
                 chip: self.load(v),
+            },
+            Target::Attribute => Wrote {
+                answer: Answer::Done,
+                chip: self.write_attribute(v),
+            },
+            Target::Status => Wrote {
+                answer: Answer::Done,
+                chip: self,
             },
             Target::NotPicked => Wrote {
                 answer: Answer::Done,
@@ -154,6 +164,16 @@ impl Chip {
                 answer: Answer::Done,
                 value: self.paldata(),
                 chip: self.with_loading(self.loading.step()),
+            },
+            Target::Attribute => Seen {
+                answer: Answer::Done,
+                value: self.attribute_index(),
+                chip: self,
+            },
+            Target::Status => Seen {
+                answer: Answer::Done,
+                value: 0x00,
+                chip: self.with_turn(false),
             },
             Target::NotPicked => Seen {
                 answer: Answer::Done,

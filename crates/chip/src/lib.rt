@@ -1,5 +1,6 @@
 // The chip: its state by value, its reset, and each register by name. Document 01, "Ports" (the state) and
-// "Registers". The palette is in palette.rt, the port accesses in access.rt. Only `fill` with `new`, `get`,
+// "Registers"; document 02, P1, for the attribute registers. The palette is in palette.rt, the attribute port in
+// attribute.rt, the port accesses in access.rt. Only `fill` with `new`, `get`,
 // `replace`, `entry` and `put_colour` touch the tables; everything else asks for a register or a colour.
 ghost use mathlib.Core.Path.{_≡_};
 ghost use Rattle.chip.specs.State.{named, withNamed};
@@ -12,6 +13,7 @@ use registers::writable_now;
 use registers::write;
 
 pub mod access;
+pub mod attribute;
 pub mod palette;
 
 // A palette entry: three bytes.
@@ -21,7 +23,8 @@ pub struct Rgb {
     pub blue: u8,
 }
 
-// The six index registers.
+// The seven index registers, of the attribute index the low five bits, and the turn of 3C0h: whether data comes
+// next.
 pub struct Indexes {
     pub cr: u8,
     pub sr: u8,
@@ -29,6 +32,8 @@ pub struct Indexes {
     pub xr: u8,
     pub fr: u8,
     pub mr: u8,
+    pub ar: u8,
+    pub turn: bool,
 }
 
 // The palette's index and loading state: the position (0 red, 1 green, 2 blue; any other counts as
@@ -41,7 +46,7 @@ pub struct Loading {
     pub reading: bool,
 }
 
-// The whole state.
+// The whole state. The picture is bit 5 of the attribute index.
 pub struct Chip {
     pub cr: [u8; 256],
     pub sr: [u8; 256],
@@ -49,8 +54,10 @@ pub struct Chip {
     pub xr: [u8; 256],
     pub fr: [u8; 256],
     pub mr: [u8; 256],
+    pub ar: [u8; 256],
     pub msr: u8,
     pub palmask: u8,
+    pub picture: bool,
     pub palette: [Rgb; 256],
     pub indexes: Indexes,
     pub loading: Loading,
@@ -82,6 +89,7 @@ pub fn after_reset(g: Group, i: u8, first: u8, second: u8) -> u8
         Group::Mr => reset_byte(g, i),
         Group::Msr => reset_byte(g, i),
         Group::Palmask => reset_byte(g, i),
+        Group::Ar => reset_byte(g, i),
     }
 }
 
@@ -116,6 +124,7 @@ impl Chip {
         let xr = fill(Group::Xr, first, second);
         let fr = fill(Group::Fr, first, second);
         let mr = fill(Group::Mr, first, second);
+        let ar = fill(Group::Ar, first, second);
         let msr = after_reset(Group::Msr, 0, first, second);
         let palmask = after_reset(Group::Palmask, 0, first, second);
         let black = Rgb {
@@ -130,8 +139,10 @@ impl Chip {
             xr,
             fr,
             mr,
+            ar,
             msr,
             palmask,
+            picture: false,
             palette: [black; 256],
             indexes: Indexes {
                 cr: 0,
@@ -140,6 +151,8 @@ impl Chip {
                 xr: 0,
                 fr: 0,
                 mr: 0,
+                ar: 0,
+                turn: false,
             },
             loading: Loading {
                 index: 0,
@@ -165,6 +178,7 @@ impl Chip {
             Group::Mr => self.mr[at],
             Group::Msr => self.msr,
             Group::Palmask => self.palmask,
+            Group::Ar => self.ar[at],
         }
     }
 
@@ -182,6 +196,7 @@ impl Chip {
             Group::Mr => self.mr[at] = b,
             Group::Msr => self.msr = b,
             Group::Palmask => self.palmask = b,
+            Group::Ar => self.ar[at] = b,
         }
         self
     }
@@ -190,7 +205,7 @@ impl Chip {
     fn locked(self, g: Group) -> bool
         ensures { λ r. ⌜ r ≡ lockedOf g (named self) ⌝ }
     {
-        locked_by(g, self.get(Group::Cr, 0x11))
+        locked_by(g, self.get(Group::Cr, 0x11), self.picture)
     }
 
     // The state after a register has received a byte, by name.

@@ -1,4 +1,4 @@
--- By the byte of CR11.
+-- By the byte of CR11, or the picture.
 use Rattle.chip.specs.Names.{locked}
 use borrow.Author.Needs.{needs}
 use Rattle.chip.proofs.Chip.locked.Statement.{statement}

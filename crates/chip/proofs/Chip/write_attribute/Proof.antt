@@ -1,0 +1,13 @@
+-- By the turn.
+use borrow.Author.Needs.{needs}
+use Rattle.chip.proofs.Chip.write_attribute.Statement.{statement}
+use Rattle.chip.proofs.Chip.write_attribute.Tie as tie
+
+pub write-attribute-spec : {M : Type 1} → statement M
+write-attribute-spec =
+    tie.close
+    (tie.spec
+    (λ c κs. search needs)
+    (λ c. rw (c .before .if1 .taken) (c .set-attribute .ensures))
+    (λ c κs. search needs)
+    (λ c. rw (c .before .if1 .left) (c .aim-attribute .ensures)))
