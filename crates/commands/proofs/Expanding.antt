@@ -13,18 +13,20 @@ use Rattle.script.specs.declared.Next.the-variants.{Found, Refused, End}
 use Rattle.commands.specs.Expansion.{ways, setBy, fieldBy, expanded, commandsOf}
 use Rattle.commands.specs.Translation.{handed, stepsTo, commandsTo, begins}
 use Rattle.commands.specs.declared.Ways.{Ways}
-use Rattle.commands.specs.declared.Ways.the-variants.{Pair, Pairs, Direct, Nowhere}
+use Rattle.commands.specs.declared.Ways.the-variants.{Pair, Pairs, Direct, Turns, Nowhere}
 
 set-most : (w : Ways) (i v : ℕ) → length (setBy w i v) ≤ 8
 set-most (Pair x p) i v = omega arith
 set-most (Pairs x p y q) i v = omega arith
 set-most (Direct w r) i v = omega arith
+set-most (Turns p r) i v = omega arith
 set-most Nowhere i v = omega arith
 
 field-most : (w : Ways) (i k s : ℕ) → length (fieldBy w i k s) ≤ 8
 field-most (Pair x p) i k s = omega arith
 field-most (Pairs x p y q) i k s = omega arith
 field-most (Direct w r) i k s = omega arith
+field-most (Turns p r) i k s = omega arith
 field-most Nowhere i k s = omega arith
 
 -- "So a step has at most 8 commands and 32 bytes."

@@ -1,12 +1,12 @@
 // Commands: four bytes each, and the commands that a script's steps stand for. Document 01, "Commands", and
-// number 9 for commands. Running them is crate `run`'s.
+// number 9 for commands; document 02, P1, for group 8. Running them is crate `run`'s.
 ghost use mathlib.Core.Path.{_≡_};
 ghost use mathlib.Core.List.{[], _∷_};
 ghost use Prim.Native.Nat.{_+_, _*_, _≤_, _%_, _/_};
 ghost use lib.ListN.{length};
 ghost use Rattle.script.specs.File.{checked};
 ghost use Rattle.commands.specs.Command.{bytesOf, commandOf};
-ghost use Rattle.commands.specs.Expansion.{ways as waysOf, setBy, fieldBy, expanded};
+ghost use Rattle.commands.specs.Expansion.{ways as waysOf, turned, setBy, fieldBy, expanded};
 ghost use Rattle.commands.specs.Translation.{Sent, commandsTo, translated, leftBy, numbersOf, translationTable};
 use reader::nth;
 use script::Checked;
@@ -41,6 +41,8 @@ pub enum Ways {
     Pairs(u16, u16, u16, u16),
     // A port to write and a port to read, with no index.
     Direct(u16, u16),
+    // A port that takes index and data by turns and reads the index, and a port that reads the data.
+    Turns(u16, u16),
     // There is no such group.
     Nowhere,
 }
@@ -109,6 +111,7 @@ pub fn ports_of(group: u8) -> Ways
         5 => Ways::Pair(0x3D2, 0x3D3),
         6 => Ways::Direct(0x3C2, 0x3CC),
         7 => Ways::Direct(0x3C6, 0x3C6),
+        8 => Ways::Turns(0x3C0, 0x3C1),
         _ => Ways::Nowhere,
     }
 }
@@ -154,6 +157,16 @@ fn put_indexed_change(out: &mut [u8], at: usize, x: u16, i: u8, p: u16, keep: u8
     put_change(out, next, p, p, keep, set)
 }
 
+// The turn returned to index, and an index written with bit 5 as it was.
+fn put_turned(out: &mut [u8], at: usize, p: u16, i: u8) -> usize
+    requires { ⌜ at + 20 ≤ length (now out) ⌝ }
+    ensures { λ r. ⌜ Sent (now (out .entry)) at (turned p i) (now (out .exit)) r ⌝ }
+{
+    let second = put_command(out, at, Command::In(0x3BA));
+    let third = put_command(out, second, Command::In(0x3DA));
+    put_change(out, third, p, p, 0x20, i)
+}
+
 // The commands of a SET.
 fn put_set(out: &mut [u8], at: usize, w: Ways, i: u8, v: u8) -> usize
     requires { ⌜ at + 32 ≤ length (now out) ⌝ }
@@ -166,6 +179,10 @@ fn put_set(out: &mut [u8], at: usize, w: Ways, i: u8, v: u8) -> usize
             put_outs(out, next, y, i, q, v)
         }
         Ways::Direct(p, _) => put_command(out, at, Command::Out(p, v)),
+        Ways::Turns(p, _) => {
+            let next = put_turned(out, at, p, i);
+            put_command(out, next, Command::Out(p, v))
+        }
         Ways::Nowhere => at,
     }
 }
@@ -182,6 +199,10 @@ fn put_field(out: &mut [u8], at: usize, w: Ways, i: u8, keep: u8, set: u8) -> us
             put_indexed_change(out, next, y, i, q, keep, set)
         }
         Ways::Direct(p, r) => put_change(out, at, r, p, keep, set),
+        Ways::Turns(p, r) => {
+            let next = put_turned(out, at, p, i);
+            put_change(out, next, r, p, keep, set)
+        }
         Ways::Nowhere => at,
     }
 }

@@ -25,7 +25,7 @@ use Rattle.commands.specs.Translation.{commandsTo, begins, ifRoom, translated}
 use Rattle.commands.specs.declared.Command.{Command}
 use Rattle.commands.specs.declared.Command.the-variants.{Out, In, Merge, OutAcc}
 use Rattle.commands.specs.declared.Ways.{Ways}
-use Rattle.commands.specs.declared.Ways.the-variants.{Pair, Pairs, Direct, Nowhere}
+use Rattle.commands.specs.declared.Ways.the-variants.{Pair, Pairs, Direct, Turns, Nowhere}
 use Rattle.commands.specs.declared.Translated.{Translated}
 use Rattle.commands.specs.declared.Translated.the-variants.{Commands, Refused}
 use Rattle.lines.specs.Line.{line, linesOf}
@@ -146,16 +146,16 @@ either t false x y p q = q
 low-by : (t : Ways → List Command) → lowPorts (t (Pairs 0x3B4 0x3B5 0x3D4 0x3D5)) ≡ true → lowPorts (t (Pair 0x3C4 0x3C5)) ≡ true
     → lowPorts (t (Pair 0x3CE 0x3CF)) ≡ true → lowPorts (t (Pair 0x3D6 0x3D7)) ≡ true → lowPorts (t (Pair 0x3D0 0x3D1)) ≡ true
     → lowPorts (t (Pair 0x3D2 0x3D3)) ≡ true → lowPorts (t (Direct 0x3C2 0x3CC)) ≡ true → lowPorts (t (Direct 0x3C6 0x3C6)) ≡ true
-    → lowPorts (t Nowhere) ≡ true → (g : ℕ) → lowPorts (t (ways g)) ≡ true
+    → lowPorts (t (Turns 0x3C0 0x3C1)) ≡ true → lowPorts (t Nowhere) ≡ true → (g : ℕ) → lowPorts (t (ways g)) ≡ true
 unfolding ways
-low-by t a b c d e f h i j g =
+low-by t a b c d e f h i j k g =
     let u : Ways → Bool = λ w. lowPorts (t w) in
     let at : (b : Bool) (x y : Ways) → u x ≡ true → u y ≡ true → u (cond b x y) ≡ true = either u in
     at (eqb g 0) _ _ a (at (eqb g 1) _ _ b (at (eqb g 2) _ _ c (at (eqb g 3) _ _ d
-    (at (eqb g 4) _ _ e (at (eqb g 5) _ _ f (at (eqb g 6) _ _ h (at (eqb g 7) _ _ i j)))))))
+    (at (eqb g 4) _ _ e (at (eqb g 5) _ _ f (at (eqb g 6) _ _ h (at (eqb g 7) _ _ i (at (eqb g 8) _ _ j k))))))))
 
 pub expanded-low : (s : Step) → lowPorts (expanded s) ≡ true
 unfolding expanded
-expanded-low (Set g i v) = low-by (λ w. setBy w i v) refl refl refl refl refl refl refl refl refl g
-expanded-low (Field g i v m) = low-by (λ w. fieldBy w i (0xFF - m) v) refl refl refl refl refl refl refl refl refl g
+expanded-low (Set g i v) = low-by (λ w. setBy w i v) refl refl refl refl refl refl refl refl refl refl g
+expanded-low (Field g i v m) = low-by (λ w. fieldBy w i (0xFF - m) v) refl refl refl refl refl refl refl refl refl refl g
 expanded-low (Colour e r g b) = refl

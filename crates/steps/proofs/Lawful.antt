@@ -1,28 +1,36 @@
 -- The definition of a legal step is the right one: which group and index a step may name, case by case, a
 -- FIELD with mask 00h, and "no bit outside mask", bit by bit. The last goes by halving both numbers.
-use mathlib.Core.Path.{_≡_, sym, ap, _∙_}
-use mathlib.Core.Bool.{true, false, and-true}
+use mathlib.Core.Path.{_≡_, refl, sym, ap, _∙_}
+use mathlib.Core.Bool.{true, false, and-true, or-false}
 use Prim.Native.Nat.{ℕ, zero, suc, _*_, _/_, _%_, _^_, _≤_, _<_}
 use native.Mathlib.Nat.{pow-succ', div-div-eq-div-mul}
 use native.Mathlib.Omega.{arith}
-use borrow.Author.Tests.{lt-ltb, le-ltb, eqb-true, eq-eqb}
-use lib.Dec.{eqb}
+use borrow.Author.Tests.{lt-ltb, le-ltb, eqb-true, eq-eqb, ne-eqb}
+use lib.Dec.{ltb, eqb}
 use lib.Bits.{bitAnd, and-step, and-shr, and-zero-l}
 use Rattle.lists.specs.Bits.{bit}
 use Rattle.steps.specs.Step.{names, within, legal}
 use Rattle.steps.specs.declared.Step.the-variants.{Field}
 
--- ---- "Groups are 0 to 7; for 6 and 7 the index is 0."
+-- ---- document 01, Scripts: "Groups are 0 to 7; for 6 and 7 the index is 0."
 pub names-indexed : (group index : ℕ) → group < 6 → names group index ≡ true
 names-indexed g i h = rw (lt-ltb _ _ h)
 
 pub names-single : (group index : ℕ) → 6 ≤ group → group < 8 → names group index ≡ eqb index 0
-names-single g i h k = rw (le-ltb _ _ h, lt-ltb _ _ k)
+names-single g i h k =
+    let n : g ≡ 8 → ⊥ = λ e. omega arith in
+    rw (le-ltb _ _ h, lt-ltb _ _ k, ne-eqb _ _ n) (or-false (eqb i 0))
 
-pub names-none : (group index : ℕ) → 8 ≤ group → names group index ≡ false
+-- ---- document 02, P1: "group 8 with an index above 14h is 7"
+pub names-attribute : (index : ℕ) → names 8 index ≡ ltb index 0x15
+names-attribute i = refl
+
+pub names-none : (group index : ℕ) → 9 ≤ group → names group index ≡ false
 names-none g i h =
     let k : 6 ≤ g = omega arith in
-    rw (le-ltb _ _ k, le-ltb _ _ h)
+    let m : 8 ≤ g = omega arith in
+    let n : g ≡ 8 → ⊥ = λ e. omega arith in
+    rw (le-ltb _ _ k, le-ltb _ _ m, ne-eqb _ _ n)
 
 -- ---- a FIELD with mask 00h is legal: it has no bit to say anything of
 pub field-no-mask : (group index : ℕ) → legal (Field group index 0 0) ≡ names group index

@@ -1,7 +1,7 @@
 -- A step of a script: what a legal step is, the six bytes of a step, and what reading six bytes finds
--- (document 01, Scripts). `legal` is the one definition of a legal step, for the reader and the writer;
--- `names` is the part of it that says which group and index a step may name. That reading and writing
--- undo each other is proofs/Codec.
+-- (document 01, Scripts; document 02, P1). `legal` is the one definition of a legal step, for the reader and
+-- the writer; `names` is the part of it that says which group and index a step may name. That reading and
+-- writing undo each other is proofs/Codec.
 use Prim.Native.Nat.{ℕ}
 use mathlib.Core.List.{List, [], _∷_}
 use mathlib.Core.Bool.{Bool, true, false, cond, _&&_, _||_}
@@ -14,9 +14,10 @@ use Rattle.steps.specs.declared.Step.the-variants.{Set, Field, Colour}
 use Rattle.steps.specs.declared.StepRead.{StepRead}
 use Rattle.steps.specs.declared.StepRead.the-variants.{Good, Refused}
 
--- "Groups are 0 to 7; for 6 and 7 the index is 0."
+-- document 01, Scripts: "Groups are 0 to 7; for 6 and 7 the index is 0." Document 02, P1: "Scripts gain
+-- group 8", and "group 8 with an index above 14h is 7".
 abbrev pub names : ℕ → ℕ → Bool
-names group index = ltb group 6 || (ltb group 8 && eqb index 0)
+names group index = ltb group 6 || (ltb group 8 && eqb index 0) || (eqb group 8 && ltb index 0x15)
 
 -- "value has no bit outside mask"
 abbrev pub within : ℕ → ℕ → Bool

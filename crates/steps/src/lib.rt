@@ -1,7 +1,7 @@
 // One step of a script: an enum of three kinds, six bytes read as a step or refused, and a step written as
-// six bytes (document 01, Scripts; number 7). What a legal step is stands in one definition, `legal` of
-// specs/Step, and in one function, `is_legal`. Group and index are numbers here; what register they name
-// is the chip's.
+// six bytes (document 01, Scripts; document 02, P1; number 7). What a legal step is stands in one
+// definition, `legal` of specs/Step, and in one function, `is_legal`. Group and index are numbers here; what
+// register they name is the chip's.
 ghost use mathlib.Core.Path.{_≡_};
 ghost use mathlib.Core.List.{[], _∷_};
 ghost use Rattle.steps.specs.Step.{names, legal, shaped, stepOf, readAt, bytesOf};
@@ -37,7 +37,7 @@ pub enum StepRead {
 pub fn is_named(group: u8, index: u8) -> bool
     ensures { λ r. ⌜ r ≡ names group index ⌝ }
 {
-    (group < 6) | (group < 8) & (index == 0)
+    (group < 6) | (group < 8) & (index == 0) | (group == 8) & (index < 0x15)
 }
 
 // Whether a step is legal.

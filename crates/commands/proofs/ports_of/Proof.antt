@@ -17,4 +17,5 @@ ports-of-spec =
     (λ c. rw (c .match .keys6))
     (λ c. rw (c .match .keys7))
     (λ c. rw (c .match .keys8))
-    (λ c. let ((((((((_, k1), k2), k3), k4), k5), k6), k7), k8) = c .match .rest in simp ne-eqb))
+    (λ c. rw (c .match .keys9))
+    (λ c. let (((((((((_, k1), k2), k3), k4), k5), k6), k7), k8), k9) = c .match .rest in simp ne-eqb))
