@@ -34,6 +34,13 @@ groupAt k =
     cond (eqb k 0) Cr (cond (eqb k 1) Sr (cond (eqb k 2) Gr (cond (eqb k 3) Xr
     (cond (eqb k 4) Fr (cond (eqb k 5) Mr (cond (eqb k 6) Msr (cond (eqb k 7) Palmask Ar)))))))
 
+-- the groups whose registers stand in tables of 256: those that have an index, in the order of their numbers, as tables 0 to 6. A number
+-- above 6 is PALMASK's, which is one register at whatever index
+unfoldable pub tableAt : ℕ → Group
+tableAt k =
+    cond (eqb k 0) Cr (cond (eqb k 1) Sr (cond (eqb k 2) Gr (cond (eqb k 3) Xr
+    (cond (eqb k 4) Fr (cond (eqb k 5) Mr (cond (eqb k 6) Ar Palmask))))))
+
 -- whether two groups are the same
 abbrev pub is : Group → Group → Bool
 is g h = eqb (numberOf g) (numberOf h)
