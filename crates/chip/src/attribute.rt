@@ -35,7 +35,8 @@ impl Chip {
     fn set_attribute(self, v: u8) -> Chip
         ensures { λ r. ⌜ r ≡ attributeSet self v ⌝ }
     {
-        self.put(Group::Ar, self.index(Group::Ar), v).with_turn(false)
+        self.put(Group::Ar, self.index(Group::Ar), v)
+            .with_turn(false)
     }
 
     // The state after a byte is written to 3C0h.
