@@ -2,9 +2,10 @@
 //
 // The C model is a struct with a field to each part of the state and one switch on the port, with the writable bits in a table,
 // as emulators write it; it is compiled with -O3 and called as a function of its own, as the library is. Both work through the
-// same list of accesses: registers of every group written and read, the palette loaded and read back, and now and then a port
-// that is not listed. Before anything is timed, the two are compared access by access. A time is the best of several turns, the
-// two taking turns, so that the ratio is of one moment of one machine.
+// same list of accesses: registers of the groups with an index port and a data port written and read, the palette loaded and read
+// back, and now and then any port from 3B0h to 3DFh, those of the attribute registers and unlisted ones among them. Before anything
+// is timed, the two are compared access by access, over that list and over one in which the attribute registers are frequent. A
+// time is the best of several turns, the two taking turns, so that the ratio is of one moment of one machine.
 
 #include <stdbool.h>
 #include <stdint.h>
@@ -15,7 +16,7 @@
 
 #include "chips69000.h"
 
-enum { CR, SR, GR, XR, FR, MR, GROUPS };
+enum { CR, SR, GR, XR, FR, MR, AR, GROUPS };
 
 static const struct {
     int group, index, writable, reset;
@@ -23,24 +24,28 @@ static const struct {
 #include "rows.h"
 };
 
-static uint8_t writable[GROUPS][256];
+// from those rows; AR00 to AR14 are chapter 12's, which gives no reset, so that is 00h
+static uint8_t writable[GROUPS][256] = {
+    [AR] = {[0x00 ... 0x0F] = 0x3F, [0x10] = 0xEF, [0x11] = 0xFF, [0x12] = 0x3F, [0x13] = 0x0F, [0x14] = 0x0F},
+};
 
 // ---- the plain model
 
 struct chip {
-    uint8_t cr[256], sr[256], gr[256], xr[256], fr[256], mr[256];
-    uint8_t cr_index, sr_index, gr_index, xr_index, fr_index, mr_index;
+    uint8_t cr[256], sr[256], gr[256], xr[256], fr[256], mr[256], ar[32];
+    uint8_t cr_index, sr_index, gr_index, xr_index, fr_index, mr_index, ar_index;
     uint8_t msr, palmask;
     struct {
         uint8_t part[3];
     } palette[256];
     uint8_t index, position, held[2];
     bool reading;
+    bool turn, picture; // 3C0h takes data next; bit 5 of the attribute index, of which ar_index is the low five
 };
 
 static void reset(struct chip *c, uint8_t first, uint8_t second) {
     memset(c, 0, sizeof *c);
-    uint8_t *tables[GROUPS] = {c->cr, c->sr, c->gr, c->xr, c->fr, c->mr};
+    uint8_t *tables[GROUPS] = {c->cr, c->sr, c->gr, c->xr, c->fr, c->mr, c->ar};
     for (size_t k = 0; k < sizeof rows / sizeof *rows; k++) {
         writable[rows[k].group][rows[k].index] = (uint8_t)rows[k].writable;
         tables[rows[k].group][rows[k].index] = (uint8_t)rows[k].reset;
@@ -77,6 +82,15 @@ __attribute__((noinline)) static uint8_t port_write(struct chip *c, uint16_t por
             if (i < 8 && (c->cr[0x11] & 0x80)) mask &= i == 7 ? 0x10 : 0x00;
             store(&c->cr[i], v, mask);
         }
+        return 0;
+    case 0x3C0:
+        if (!c->turn) {
+            c->ar_index = v & 0x1F;
+            c->picture = v & 0x20;
+        } else if (!c->picture || c->ar_index > 0x0F) {
+            store(&c->ar[c->ar_index], v, writable[AR][c->ar_index]);
+        }
+        c->turn = !c->turn;
         return 0;
     case 0x3C2: store(&c->msr, v, 0xEF); return 0;
     case 0x3C4: c->sr_index = v; return 0;
@@ -119,6 +133,13 @@ __attribute__((noinline)) static uint16_t port_read(struct chip *c, uint16_t por
     case 0x3D4: return (port == 0x3D4) == (c->msr & 1) ? c->cr_index : 0xFF;
     case 0x3B5:
     case 0x3D5: return (port == 0x3D5) == (c->msr & 1) ? c->cr[c->cr_index] : 0xFF;
+    case 0x3BA:
+    case 0x3DA:
+        if ((port == 0x3DA) != (c->msr & 1)) return 0xFF;
+        c->turn = false;
+        return 0x00;
+    case 0x3C0: return c->ar_index | (c->picture ? 0x20 : 0x00);
+    case 0x3C1: return c->ar[c->ar_index];
     case 0x3C4: return c->sr_index;
     case 0x3C5: return c->sr[c->sr_index];
     case 0x3C6: return c->palmask;
@@ -196,6 +217,23 @@ static void fill(void) {
 static struct chip plain;
 static uint8_t state[CHIPS69000_STATE_SIZE];
 
+static bool agree(struct access a) {
+    uint32_t x = a.write ? chips69000_port_write(state, sizeof state, a.port, a.value) : chips69000_port_read(state, sizeof state, a.port);
+    uint32_t y = a.write ? port_write(&plain, a.port, a.value) : port_read(&plain, a.port);
+    if (x != y) printf("%s %03X differs: %u and %u\n", a.write ? "OUT" : "IN", a.port, x, y);
+    return x == y;
+}
+
+// a port of the attribute registers, in either direction; MSR, which picks the port of input status 1, and XR09, which does nothing
+// to the turn; or any port
+static struct access attribute(void) {
+    static const uint16_t port[] = {0x3C0, 0x3C0, 0x3C0, 0x3C0, 0x3C1, 0x3C1, 0x3BA, 0x3DA, 0x3C2, 0x3D6, 0x3D7};
+    uint32_t k = drawn(12);
+    uint8_t value = (uint8_t)drawn(256);
+    uint16_t p = k < 11 ? port[k] : (uint16_t)(0x3B0 + drawn(48));
+    return (struct access){p, p == 0x3D6 ? 0x09 : value, drawn(3) > 0};
+}
+
 static uint32_t by_library(void) {
     uint32_t sum = 0;
     for (int k = 0; k < COUNT; k++)
@@ -245,7 +283,7 @@ static uint8_t played(void) {
     return chips69000_play(state, sizeof state, file, sizeof file, room, sizeof room, &count, &value);
 }
 
-// the longest script there is, of steps of every kind: how often a second it is checked, translated and played
+// the longest script there is, of steps of every kind and group: how often a second it is checked, translated and played
 static int scripts(void) {
     static const struct {
         const char *name;
@@ -253,8 +291,8 @@ static int scripts(void) {
     } ways[] = {{"checked", checked}, {"translated", translated}, {"played", played}};
     size_t blocks;
     for (int k = 0; k < STEPS; k++) {
-        uint8_t kind = (uint8_t)(1 + drawn(3)), group = (uint8_t)drawn(8), mask = (uint8_t)drawn(256), value = (uint8_t)drawn(256);
-        uint8_t index = group < 6 ? (uint8_t)drawn(256) : 0;
+        uint8_t kind = (uint8_t)(1 + drawn(3)), group = (uint8_t)drawn(9), mask = (uint8_t)drawn(256), value = (uint8_t)drawn(256);
+        uint8_t index = group < 6 ? (uint8_t)drawn(256) : group == 8 ? (uint8_t)drawn(0x15) : 0;
         uint8_t set[] = {1, group, index, value, 0, 0}, field[] = {2, group, index, value & mask, mask, 0};
         uint8_t colour[] = {3, index, value, mask, group, 0};
         memcpy(steps + 6 * k, kind == 1 ? set : kind == 2 ? field : colour, 6);
@@ -279,15 +317,10 @@ int main(void) {
     reset(&plain, 0xFF, 0x00);
     chips69000_reset(state, sizeof state, 0xFF, 0x00);
     for (int turn = 0; turn < 64; turn++)
-        for (int k = 0; k < COUNT; k++) {
-            struct access a = list[k];
-            uint32_t x = a.write ? chips69000_port_write(state, sizeof state, a.port, a.value) : chips69000_port_read(state, sizeof state, a.port);
-            uint32_t y = a.write ? port_write(&plain, a.port, a.value) : port_read(&plain, a.port);
-            if (x != y) {
-                printf("%s %03X differs: %u and %u\n", a.write ? "OUT" : "IN", a.port, x, y);
-                return 1;
-            }
-        }
+        for (int k = 0; k < COUNT; k++)
+            if (!agree(list[k])) return 1;
+    for (int k = 0; k < 64 * COUNT; k++)
+        if (!agree(attribute())) return 1;
     double library = 1e9, model = 1e9;
     for (int turn = 0; turn < 40; turn++) {
         double x = timed(by_library, 20), y = timed(by_model, 20);

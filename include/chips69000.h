@@ -22,7 +22,7 @@ extern "C" {
 #endif
 
 /* The bytes of a state, and of the part's whole video memory. */
-#define CHIPS69000_STATE_SIZE 2317
+#define CHIPS69000_STATE_SIZE 2574
 #define CHIPS69000_MEMORY_SIZE 2097152
 
 /* What a call returns. */
@@ -82,7 +82,8 @@ uint8_t chips69000_run(uint8_t *state, size_t state_length, const uint8_t *comma
                        size_t *count, size_t *place);
 
 /* A script file played on a state: translated into lent commands, 32 bytes a step, and run whole. Registers and colours are
- * afterwards what the steps say by name. The count is of the commands carried out; the value is what the number says. */
+ * afterwards what the steps say by name, and bit 5 of the attribute index, video enable, is as it was. The count is of the
+ * commands carried out; the value is what the number says. */
 uint8_t chips69000_play(uint8_t *state, size_t state_length, const uint8_t *file, size_t file_length, uint8_t *commands,
                         size_t commands_length, size_t *count, size_t *value);
 

@@ -18,7 +18,7 @@ use Rattle.commands.specs.Expansion.{ways, setBy, fieldBy, expanded, commandsOf
 use Rattle.commands.specs.declared.Command.{Command}
 use Rattle.commands.specs.declared.Command.the-variants.{Out, In}
 use Rattle.commands.specs.declared.Ways.{Ways}
-use Rattle.commands.specs.declared.Ways.the-variants.{Pair, Pairs, Direct, Nowhere}
+use Rattle.commands.specs.declared.Ways.the-variants.{Pair, Pairs, Direct, Turns, Nowhere}
 use Rattle.run.specs.Run.{one, done, runFrom, ranTo}
 use Rattle.run.proofs.RunLaws.{knowns}
 use Rattle.run.specs.declared.Reason.the-variants.{Closed}
@@ -44,12 +44,14 @@ module _ (c : Chip) (shut : portsOpen (named c) ≡ false) where
   set-stops (Pair x p) i v group l = out-stops x i _
   set-stops (Pairs x p y q) i v group l = out-stops x i _
   set-stops (Direct w r) i v group l = out-stops w v _
+  set-stops (Turns p r) i v group l = in-stops 0x3BA _
   set-stops Nowhere i v group l = absurd l
 
   field-stops : (w : Ways) (i k s group : ℕ) → Leads true (groupAt group) i w → Stops (fieldBy w i k s)
   field-stops (Pair x p) i k s group l = out-stops x i _
   field-stops (Pairs x p y q) i k s group l = out-stops x i _
   field-stops (Direct w r) i k s group l = in-stops r _
+  field-stops (Turns p r) i k s group l = in-stops 0x3BA _
   field-stops Nowhere i k s group l = absurd l
 
   step-stops : (s : Step) → legal s ≡ true → Stops (expanded s)

@@ -10,7 +10,8 @@ use lib.Dec.{eqb}
 use lib.ListN.{length}
 use borrow.Author.Tests.{eqb-true, eqb-false}
 use Rattle.chip.specs.State.{Named, named, join}
-use Rattle.chip.specs.Names.{portsOpen}
+use Rattle.chip.specs.Names.{received, portsOpen}
+use Rattle.chip.specs.Palette.{coloured}
 use Rattle.chip.proofs.ReachLaws.{ports-stay}
 use Rattle.chip.specs.declared.Chip.{Chip}
 use Rattle.chip.specs.declared.Indexes.{Indexes}
@@ -46,6 +47,18 @@ unfolding applied
 open-applied (Set g i v) n = open-received _ n i v
 open-applied (Field g i v m) n = open-received _ n i _
 open-applied (Colour e r g b) n = open-coloured n e r g b
+
+-- no step says anything of the picture
+picture-applied : (s : Step) (n : Named) → applied s n .picture ≡ n .picture
+unfolding applied received coloured
+picture-applied (Set g i v) n = refl
+picture-applied (Field g i v m) n = refl
+picture-applied (Colour e r g b) n = refl
+
+picture-stays : (ss : List Step) (n : Named) → appliedAll ss n .picture ≡ n .picture
+unfolding appliedAll
+picture-stays [] n = refl
+picture-stays (s ∷ ss) n = picture-stays ss (applied s n) ∙ picture-applied s n
 
 pub script-sent : (ss : List Step) (n : Named) → AllLegal ss → portsOpen n ≡ true → Sends Any n (commandsOf ss) (appliedAll ss n) Any
 unfolding commandsOf appliedAll
@@ -103,7 +116,12 @@ module _ (f : List ℕ) (m : ℕ) (acc : checked f ≡ Accepted m) (c : Chip) (f
   pub after-steps : (n : ℕ) → n ≤ m → AfterSteps c f m n
   after-steps n room =
       let (x, l, s) = stands n room in
-      record { count = s .count; unrefused = s .unrefused; byName = ap named (s .chip) }
+      record {
+        count = s .count;
+        unrefused = s .unrefused;
+        byName = ap named (s .chip);
+        picture = ap (λ (d : Chip). d .picture) (s .chip) ∙ picture-stays (stepsTo f n) (named c);
+      }
 
   -- the run of all its commands ends
   pub whole-run : (x : Indexes) × (l : Loading)

@@ -1,6 +1,7 @@
--- The theorem is in Demand3. Under it: what lists of commands do to what has a name (Sends), the facts of each group (Reaching), each step's
--- commands (StepsSent), closed ports (Closed), and the entry (Playing).
+-- The theorem is in Demand3. Under it: what lists of commands do to what has a name (Sends), the port that goes by turns (Turning), the facts of each
+-- group (Reaching), each step's commands (StepsSent), closed ports (Closed), and the entry (Playing).
 pub mod Sends
+pub mod Turning
 pub mod Reaching
 pub mod StepsSent
 pub mod Demand3

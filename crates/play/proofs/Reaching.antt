@@ -1,29 +1,30 @@
 -- The facts of each group that the argument rests on: where its ports lead, that a selected index is the one that its data port works
 -- at, and that no write by name closes the ports. A new group adds its facts here; the argument in StepsSent goes by the way
 -- a group is reached and stays.
-use Prim.Native.Nat.{ℕ, zero, suc}
+use Prim.Native.Nat.{ℕ, zero, suc, _%_, _<_}
 use native.Mathlib.Omega.{arith}
 use mathlib.Core.Bool.{Bool, true, false}
-use mathlib.Core.Path.{_≡_, refl, ap, sym}
+use mathlib.Core.Path.{_≡_, refl, ap, sym, _∙_}
 use lib.Dec.{eqb}
-use borrow.Author.Tests.{eqb-true, le-ltb}
+use borrow.Author.Tests.{eqb-true, ltb-true}
 use Rattle.lists.specs.Bits.{bit, isSet}
 use Rattle.registers.specs.Extension.{XR}
 use Rattle.registers.specs.Groups.{groupAt, rowOf, writableOf}
 use Rattle.registers.proofs.WriteLaws.{locked-fewer}
 use Rattle.registers.specs.declared.Group.{Group}
-use Rattle.registers.specs.declared.Group.the-variants.{Cr, Xr}
+use Rattle.registers.specs.declared.Group.the-variants.{Cr, Xr, Ar}
 use Rattle.ports.specs.Ports.{ports, target}
-use Rattle.ports.specs.declared.Target.the-variants.{Index, Data, NotPicked}
+use Rattle.ports.specs.declared.Target.the-variants.{Index, Data, Attribute, NotPicked}
 use Rattle.chip.specs.State.{Named, indexOf, withIndex}
 use Rattle.chip.specs.Names.{locked, received, portsOpen, colour}
 use Rattle.chip.specs.Palette.{coloured}
 use Rattle.chip.proofs.NameLaws.{received-keeps-bit, coloured-keeps-register}
 use Rattle.chip.specs.declared.Indexes.{Indexes}
 use Rattle.steps.specs.Step.{names}
+use Rattle.steps.proofs.Lawful.{names-single, names-none}
 use Rattle.commands.specs.Expansion.{ways}
 use Rattle.commands.specs.declared.Ways.{Ways}
-use Rattle.commands.specs.declared.Ways.the-variants.{Pair, Pairs, Direct, Nowhere}
+use Rattle.commands.specs.declared.Ways.the-variants.{Pair, Pairs, Direct, Turns, Nowhere}
 
 -- an index port and a data port that lead to a group while MSR bit 0 is b, and a pair that is not picked
 abbrev pub On : Bool → Group → ℕ → ℕ → Type 0
@@ -42,6 +43,7 @@ Leads b g i (Pair x p) = On b g x p × ((y : Indexes) → indexOf g (withIndex g
 Leads true g i (Pairs x p y q) = Off true x p × On true g y q × Steady g × ((z : Indexes) → indexOf g (withIndex g z i) ≡ i)
 Leads false g i (Pairs x p y q) = On false g x p × Off false y q × Steady g × ((z : Indexes) → indexOf g (withIndex g z i) ≡ i)
 Leads b g i (Direct w r) = (target b true w ≡ Data g) × (target b false r ≡ Data g) × ((y : Indexes) → indexOf g y ≡ i)
+Leads b g i (Turns p r) = (g ≡ Ar) × (target b true p ≡ Attribute) × (target b false p ≡ Attribute) × (target b false r ≡ Data Ar) × (i < 32)
 Leads b g i Nowhere = ⊥
 
 CR-steady : Steady Cr
@@ -51,7 +53,7 @@ CR-steady n i v = refl
 false-true : false ≡ true → ⊥
 false-true h = let z : _≡_ {A = ℕ} 0 1 = cc in omega arith
 
--- the eight groups, each by its number
+-- the nine groups, each by its number
 pub leads : (b : Bool) (group i : ℕ) → names group i ≡ true → Leads b (groupAt group) i (ways group)
 unfolding target ports ways groupAt
 leads true zero i h = ((refl, refl, refl), (refl, refl, refl), CR-steady, λ z. refl)
@@ -61,11 +63,11 @@ leads b (suc (suc zero)) i h = ((refl, refl, refl), λ y. refl)
 leads b (suc (suc (suc zero))) i h = ((refl, refl, refl), λ y. refl)
 leads b (suc (suc (suc (suc zero)))) i h = ((refl, refl, refl), λ y. refl)
 leads b (suc (suc (suc (suc (suc zero))))) i h = ((refl, refl, refl), λ y. refl)
-leads b (suc (suc (suc (suc (suc (suc zero)))))) i h = (refl, refl, λ y. sym (eqb-true i 0 h))
-leads b (suc (suc (suc (suc (suc (suc (suc zero))))))) i h = (refl, refl, λ y. sym (eqb-true i 0 h))
-leads b (suc (suc (suc (suc (suc (suc (suc (suc group)))))))) i h =
-    let k : ℕ = suc (suc (suc (suc (suc (suc (suc (suc group))))))) in
-    absurd (false-true (rw (le-ltb k 6 (omega arith), le-ltb k 8 (omega arith)) at h))
+leads b (suc (suc (suc (suc (suc (suc zero)))))) i h = (refl, refl, λ y. sym (eqb-true i 0 (sym (names-single 6 i (omega arith) (omega arith)) ∙ h)))
+leads b (suc (suc (suc (suc (suc (suc (suc zero))))))) i h = (refl, refl, λ y. sym (eqb-true i 0 (sym (names-single 7 i (omega arith) (omega arith)) ∙ h)))
+leads b (suc (suc (suc (suc (suc (suc (suc (suc zero)))))))) i h = let fits = ltb-true i 0x15 h in (refl, refl, refl, refl, omega arith)
+leads b (suc (suc (suc (suc (suc (suc (suc (suc (suc group))))))))) i h =
+    absurd (false-true (sym (names-none (suc (suc (suc (suc (suc (suc (suc (suc (suc group))))))))) i (omega arith)) ∙ h))
 
 -- ---- the ports stay open
 XR70-fixed : writableOf Xr 0x70 ≡ 0x00

@@ -76,7 +76,7 @@ module _ (n : Named) (x : Indexes) (l : Loading) (a : ℕ) (rs : List CommandRea
   unfolding carry one done portWritten
   store-acc g i e h = rw (free, picks, h, e)
 
-  fetch : (g : Group) (i : ℕ) → indexOf g x ≡ i → target b false p ≡ Data g
+  pub fetch : (g : Group) (i : ℕ) → indexOf g x ≡ i → target b false p ≡ Data g
       → carry (join n x l) a (Known (In p) ∷ rs) ≡ carry (join n x l) (register g n i) rs
   unfolding carry one done portRead
   fetch g i e h = rw (free, picks, h, e)
@@ -89,7 +89,7 @@ module _ (n : Named) (x : Indexes) (l : Loading) (a : ℕ) (rs : List CommandRea
   unfolding carry one done portWritten
   idle-acc h = rw (free, picks, h)
 
-  idle-in : target b false p ≡ NotPicked → carry (join n x l) a (Known (In p) ∷ rs) ≡ carry (join n x l) 0xFF rs
+  pub idle-in : target b false p ≡ NotPicked → carry (join n x l) a (Known (In p) ∷ rs) ≡ carry (join n x l) 0xFF rs
   unfolding carry one done portRead
   idle-in h = rw (free, picks, h)
 
@@ -97,7 +97,7 @@ pub ended : (c : Chip) (a : ℕ) → carry c a [] ≡ did Done a c
 unfolding carry
 ended c a = refl
 
-merged : (c : Chip) (a k s : ℕ) (rs : List CommandRead) → carry c a (Known (Merge k s) ∷ rs) ≡ carry c (bitOr (bitAnd a k) s) rs
+pub merged : (c : Chip) (a k s : ℕ) (rs : List CommandRead) → carry c a (Known (Merge k s) ∷ rs) ≡ carry c (bitOr (bitAnd a k) s) rs
 unfolding carry one done
 merged c a k s rs = refl
 

@@ -6,6 +6,7 @@ use mathlib.Core.List.{List, [], _∷_}
 use lib.Bits.{bitAnd, bitOr}
 use Rattle.lists.proofs.Tests.{and-both}
 use Rattle.registers.specs.declared.Group.{Group}
+use Rattle.registers.specs.declared.Group.the-variants.{Ar}
 use Rattle.ports.specs.Ports.{ports, target}
 use Rattle.chip.specs.State.{Named, join}
 use Rattle.chip.specs.Names.{register, received, portsOpen, colour}
@@ -21,11 +22,12 @@ use Rattle.commands.specs.declared.Command.the-variants.{Out}
 use Rattle.commands.specs.declared.CommandRead.{CommandRead}
 use Rattle.commands.specs.declared.CommandRead.the-variants.{Known}
 use Rattle.commands.specs.declared.Ways.{Ways}
-use Rattle.commands.specs.declared.Ways.the-variants.{Pair, Pairs, Direct, Nowhere}
+use Rattle.commands.specs.declared.Ways.the-variants.{Pair, Pairs, Direct, Turns, Nowhere}
 use Rattle.run.specs.Run.{one, done, carry}
 use Rattle.registers.specs.Groups.{groupAt}
 use Rattle.play.specs.ByName.{applied}
 use Rattle.play.proofs.Sends.{Sends, Any, At, sends-append, sends-from, sends-any, selects, stores, changes, passes, skips, ended}
+use Rattle.play.proofs.Turning.{aims, gives, gives-change}
 use Rattle.play.proofs.Reaching.{Leads, leads, open-received}
 
 module _ (n : Named) (free : portsOpen n ≡ true) (g : Group) (i : ℕ) where
@@ -41,6 +43,8 @@ module _ (n : Named) (free : portsOpen n ≡ true) (g : Group) (i : ℕ) where
       sends-append (sends-append (selects n free false picks g i (λ z _. kept z) x (on .0)) (stores n free false picks g i (λ z h. h) p v (on .1)))
       (sends-append (passes _ free′ false picks′ y (off .0) i) (passes _ free′ false picks′ q (off .1) v))
   set-sent v (Direct w r) b picks (hw, hr, at) = sends-from (λ y _. at y) (stores n free b picks g i (λ y h. h) w v hw)
+  set-sent v (Turns p r) b picks (is, writes, index, data-port, fits) =
+      rw is (sends-append (aims n free b picks p writes i fits index) (gives n free b picks p writes i fits v))
   set-sent v Nowhere b picks none = absurd none
 
   field-sent : (k s : ℕ) (w : Ways) (b : Bool) → colour n ≡ b → Leads b g i w
@@ -57,6 +61,8 @@ module _ (n : Named) (free : portsOpen n ≡ true) (g : Group) (i : ℕ) where
       sends-append (sends-append (selects n free false picks g i (λ z _. kept z) x (on .0)) (changes n free false picks g i (λ z h. h) p p k s (on .1) (on .2)))
       (sends-append (passes _ free′ false picks′ y (off .0) i) (skips _ free′ false picks′ q (off .1) k s (off .2)))
   field-sent k s (Direct w r) b picks (hw, hr, at) = sends-from (λ y _. at y) (changes n free b picks g i (λ y h. h) w r k s hw hr)
+  field-sent k s (Turns p r) b picks (is, writes, index, data-port, fits) =
+      rw is (sends-append (aims n free b picks p writes i fits index) (gives-change n free b picks p writes i fits r k s data-port))
   field-sent k s Nowhere b picks none = absurd none
 
 -- COLOUR: the write index is written, whatever was half loaded is dropped, and the third byte stores the entry

@@ -2,6 +2,7 @@
 use mathlib.Core.Bool.{true}
 use mathlib.Core.Path.{_≡_, refl}
 use Rattle.registers.specs.CrtController.{CR}
+use Rattle.registers.specs.Attribute.{AR}
 use Rattle.registers.specs.Extension.{XR}
 use Rattle.registers.specs.Multimedia.{MR}
 use Rattle.registers.specs.Groups.{rowOf}
@@ -23,5 +24,5 @@ use Rattle.commands.specs.Expansion.{ways, expanded}
 use Rattle.setups.specs.Setups.{setups, allHold}
 
 pub setups-hold : allHold setups ≡ true
-unfolding setups CR XR MR rowOf lockedBy leftOpen writableNow written ports target locked received portsOpen colour eightBit coloured loaded shown portWritten portRead resetByte filled reset number raster usesSource usesPattern byteDone inTurn lineDone linesDone inRange inMemory transferred every tab bytesOf wordSum front blocksTo bytesOfAll ways expanded
+unfolding setups CR AR XR MR rowOf lockedBy leftOpen writableNow written ports target locked received portsOpen colour eightBit coloured loaded shown portWritten portRead resetByte filled reset number raster usesSource usesPattern byteDone inTurn lineDone linesDone inRange inMemory transferred every tab bytesOf wordSum front blocksTo bytesOfAll ways expanded
 setups-hold = refl

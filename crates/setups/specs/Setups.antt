@@ -1,4 +1,5 @@
--- Document 01, "Set-ups to try": the cases marked * in one table, a row to a line, over the definitions that the contracts cite.
+-- Document 01, "Set-ups to try": the cases marked * in one table, a row to a line, over the definitions that the contracts cite. Then
+-- cases of document 02's requests.
 -- That every row holds is one statement, `setups-hold`, in proofs/Holding.
 use Prim.Native.Nat.{ℕ}
 use mathlib.Core.Bool.{Bool, true, false, _&&_}
@@ -6,7 +7,7 @@ use mathlib.Core.List.{List, [], _∷_, _++_}
 use lib.Dec.{eqb}
 use lib.ListN.{length, take, replicate}
 use Rattle.registers.specs.declared.Group.{Group}
-use Rattle.registers.specs.declared.Group.the-variants.{Cr, Xr}
+use Rattle.registers.specs.declared.Group.the-variants.{Cr, Xr, Ar}
 use Rattle.chip.specs.State.{named}
 use Rattle.chip.specs.Names.{register}
 use Rattle.chip.specs.Palette.{entry, shown}
@@ -31,6 +32,8 @@ use Rattle.commands.specs.Expansion.{expanded}
 pub data Event : Type 0 where
   -- a byte written to a port, with number 0
   gets : ℕ → ℕ → Event
+  -- a byte written to a port, with another number
+  refuses : ℕ → ℕ → ℕ → Event
   -- a port read, with number 0
   reads : ℕ → ℕ → Event
   -- a register by name
@@ -65,6 +68,7 @@ components c = c .red ∷ c .green ∷ c .blue ∷ []
 abbrev pub happens : Chip → List Event → Bool
 happens c [] = true
 happens c (gets p v ∷ es) = eqb (numberOf (portWritten c p v .answer)) 0 && happens (portWritten c p v .chip) es
+happens c (refuses p v number ∷ es) = eqb (numberOf (portWritten c p v .answer)) number && happens (portWritten c p v .chip) es
 happens c (reads p v ∷ es) = eqb (numberOf (portRead c p .answer)) 0 && (eqb (portRead c p .value) v && happens (portRead c p .chip) es)
 happens c (is g i v ∷ es) = eqb (register g (named c) i) v && happens c es
 happens c (colour e r g b ∷ es) = same (components (entry (named c) e)) (r ∷ g ∷ b ∷ []) && happens c es
@@ -133,6 +137,34 @@ setups =
     (0x01 ∷ 0xD6 ∷ 0x03 ∷ 0x80 ∷ 0x02 ∷ 0xD7 ∷ 0x03 ∷ 0x00 ∷ 0x03 ∷ 0x7F ∷ 0x80 ∷ 0x00 ∷ 0x04 ∷ 0xD7 ∷ 0x03 ∷ 0x00 ∷ [])
     -- 13. One block, SET XR60 43h: the check is B89Fh.
     ∷ check (Set 3 0x60 0x43) 0xB89F
+    -- P1.1. 3C0h gets 11h and 5Ah, 12h and FFh: AR11 is 5Ah, AR12 is 3Fh; 3C1h reads 3Fh and 3C0h reads 12h.
+    ∷ chip 0x02 0x00
+    (gets 0x3C0 0x11 ∷ gets 0x3C0 0x5A ∷ gets 0x3C0 0x12 ∷ gets 0x3C0 0xFF
+    ∷ is Ar 0x11 0x5A ∷ is Ar 0x12 0x3F ∷ reads 0x3C1 0x3F ∷ reads 0x3C0 0x12 ∷ [])
+    -- P1.2. MSR bit 0 = 0. 3C0h gets 13h, 3C0h and 3C1h are read, 3DAh reads FFh, 3C0h gets 07h: AR13 is 07h, the turn was data. 3C0h gets 14h,
+    -- 3BAh reads 00h, 3C0h gets 11h: AR14 is 00h, and 3C0h reads 11h. With MSR bit 0 = 1 it is 3DAh that returns the turn.
+    ∷ chip 0x02 0x00
+    (gets 0x3C0 0x13 ∷ reads 0x3C0 0x13 ∷ reads 0x3C1 0x00 ∷ reads 0x3DA 0xFF ∷ gets 0x3C0 0x07 ∷ is Ar 0x13 0x07
+    ∷ gets 0x3C0 0x14 ∷ reads 0x3BA 0x00 ∷ gets 0x3C0 0x11 ∷ is Ar 0x14 0x00 ∷ reads 0x3C0 0x11
+    ∷ gets 0x3C2 0x01 ∷ reads 0x3BA 0xFF ∷ gets 0x3C0 0x22 ∷ is Ar 0x11 0x22
+    ∷ gets 0x3C0 0x14 ∷ reads 0x3DA 0x00 ∷ gets 0x3C0 0x10 ∷ is Ar 0x14 0x00 ∷ reads 0x3C0 0x10 ∷ [])
+    -- P1.3. AR00 = 15h; with index bit 5 set it stays at a write of 3Fh and reads 15h, and AR10 takes 41h; with bit 5 clear AR00 takes 3Fh.
+    ∷ chip 0x02 0x00
+    (gets 0x3C0 0x00 ∷ gets 0x3C0 0x15 ∷ gets 0x3C0 0x20 ∷ gets 0x3C0 0x3F ∷ is Ar 0x00 0x15 ∷ reads 0x3C1 0x15 ∷ reads 0x3C0 0x20
+    ∷ gets 0x3C0 0x30 ∷ gets 0x3C0 0x41 ∷ is Ar 0x10 0x41 ∷ gets 0x3C0 0x00 ∷ gets 0x3C0 0x3F ∷ is Ar 0x00 0x3F ∷ [])
+    -- P1.4. 3C0h gets E5h and reads 25h. Index 15h is unlisted. Writes to 3C1h, 3BAh and 3DAh are refused with 1 and leave the turn.
+    ∷ chip 0x02 0x00
+    (gets 0x3C0 0xE5 ∷ reads 0x3C0 0x25 ∷ gets 0x3C0 0x00
+    ∷ gets 0x3C0 0x15 ∷ gets 0x3C0 0xFF ∷ reads 0x3C1 0x00
+    ∷ gets 0x3C0 0x12 ∷ refuses 0x3C1 0x01 1 ∷ refuses 0x3BA 0x02 1 ∷ refuses 0x3DA 0x03 1 ∷ gets 0x3C0 0x04 ∷ is Ar 0x12 0x04 ∷ [])
+    -- P1.5. SET AR11 07h: 02 BA 03 00, 02 DA 03 00, 02 C0 03 00, 03 20 11 00, 04 C0 03 00, 01 C0 03 07.
+    ∷ commands (Set 8 0x11 0x07)
+    (0x02 ∷ 0xBA ∷ 0x03 ∷ 0x00 ∷ 0x02 ∷ 0xDA ∷ 0x03 ∷ 0x00 ∷ 0x02 ∷ 0xC0 ∷ 0x03 ∷ 0x00 ∷ 0x03 ∷ 0x20 ∷ 0x11 ∷ 0x00
+    ∷ 0x04 ∷ 0xC0 ∷ 0x03 ∷ 0x00 ∷ 0x01 ∷ 0xC0 ∷ 0x03 ∷ 0x07 ∷ [])
+    -- P1.6. FIELD AR10, mask 08h, value 08h: the first five again, with 10h, then 02 C1 03 00, 03 F7 08 00, 04 C0 03 00.
+    ∷ commands (Field 8 0x10 0x08 0x08)
+    (0x02 ∷ 0xBA ∷ 0x03 ∷ 0x00 ∷ 0x02 ∷ 0xDA ∷ 0x03 ∷ 0x00 ∷ 0x02 ∷ 0xC0 ∷ 0x03 ∷ 0x00 ∷ 0x03 ∷ 0x20 ∷ 0x10 ∷ 0x00
+    ∷ 0x04 ∷ 0xC0 ∷ 0x03 ∷ 0x00 ∷ 0x02 ∷ 0xC1 ∷ 0x03 ∷ 0x00 ∷ 0x03 ∷ 0xF7 ∷ 0x08 ∷ 0x00 ∷ 0x04 ∷ 0xC0 ∷ 0x03 ∷ 0x00 ∷ [])
     ∷ []
 
 abbrev pub allHold : List Row → Bool

@@ -1,5 +1,6 @@
-// Document 01's set-ups on the compiled code: a line a case, `3 ok`, or the bytes that came out instead. The
-// cases marked * are also rows of the table in specs/Setups, which is proved. A case is sixteen bytes:
+// Document 01's set-ups on the compiled code, and cases of document 02's requests: a line a case, `3 ok` or
+// `P1.2 ok`, or the bytes that came out instead. The cases marked *, and those of requests, are also rows of the
+// table in specs/Setups, which is proved. A case is sixteen bytes:
 // what came out, and zeros after it.
 use blit::Area;
 use blit::Transfer;
@@ -51,6 +52,14 @@ fn report(case: u64, got: [u8; 16], want: [u8; 16]) {
     io::write_all(STDOUT_FILENO, b"\n");
 }
 
+// The line of a case of a request.
+fn report_request(request: u64, case: u64, got: [u8; 16], want: [u8; 16]) {
+    io::write_all(STDOUT_FILENO, b"P");
+    io::print_decimal(STDOUT_FILENO, request);
+    io::write_all(STDOUT_FILENO, b".");
+    report(case, got, want);
+}
+
 // A chip after a write to a port, and what a read of a port gives.
 fn after(c: Chip, port: u16, v: u8) -> Chip {
     let w = c.write(port, v);
@@ -60,6 +69,18 @@ fn after(c: Chip, port: u16, v: u8) -> Chip {
 fn seen(c: Chip, port: u16) -> u8 {
     let s = c.read(port);
     s.value
+}
+
+// A chip after a read of a port, and the number of a write to one.
+fn after_read(c: Chip, port: u16) -> Chip {
+    let s = c.read(port);
+    s.chip
+}
+
+fn refusal(c: Chip, port: u16, v: u8) -> u8 {
+    let w = c.write(port, v);
+    let answer = w.answer;
+    number(answer)
 }
 
 // 1. XR60, XR67, MR1F written FFh.
@@ -225,6 +246,75 @@ fn case_13() -> [u8; 16] {
     out
 }
 
+// P1.1. 3C0h gets 11h and 5Ah, 12h and FFh: AR11, AR12, and what 3C1h and 3C0h read.
+fn case_p1_1() -> [u8; 16] {
+    let a = after(after(Chip::new(0x02, 0x00), 0x3C0, 0x11), 0x3C0, 0x5A);
+    let c = after(after(a, 0x3C0, 0x12), 0x3C0, 0xFF);
+    let mut out = [0u8; 16];
+    out[0] = c.get(Group::Ar, 0x11);
+    out[1] = c.get(Group::Ar, 0x12);
+    out[2] = seen(c, 0x3C1);
+    out[3] = seen(c, 0x3C0);
+    out
+}
+
+// P1.2. MSR bit 0 = 0: the turn after 3C0h, 3C1h and 3DAh are read, and after 3BAh is. With MSR bit 0 = 1: after
+// 3BAh, and after 3DAh.
+fn case_p1_2() -> [u8; 16] {
+    let a = after(Chip::new(0x02, 0x00), 0x3C0, 0x13);
+    let b = after_read(after_read(after_read(a, 0x3C0), 0x3C1), 0x3DA);
+    let c = after(b, 0x3C0, 0x07);
+    let d = after(after_read(after(c, 0x3C0, 0x14), 0x3BA), 0x3C0, 0x11);
+    let e = after(after_read(after(d, 0x3C2, 0x01), 0x3BA), 0x3C0, 0x22);
+    let f = after(after_read(after(e, 0x3C0, 0x14), 0x3DA), 0x3C0, 0x10);
+    let mut out = [0u8; 16];
+    out[0] = seen(a, 0x3DA);
+    out[1] = c.get(Group::Ar, 0x13);
+    out[2] = seen(a, 0x3BA);
+    out[3] = d.get(Group::Ar, 0x14);
+    out[4] = seen(d, 0x3C0);
+    out[5] = e.get(Group::Ar, 0x11);
+    out[6] = f.get(Group::Ar, 0x14);
+    out[7] = seen(f, 0x3C0);
+    out
+}
+
+// P1.3. AR00 = 15h, then 3Fh with index bit 5 set; AR10 = 41h with bit 5 set; AR00 = 3Fh with bit 5 clear.
+fn case_p1_3() -> [u8; 16] {
+    let a = after(after(Chip::new(0x02, 0x00), 0x3C0, 0x00), 0x3C0, 0x15);
+    let b = after(after(a, 0x3C0, 0x20), 0x3C0, 0x3F);
+    let c = after(after(b, 0x3C0, 0x30), 0x3C0, 0x41);
+    let d = after(after(c, 0x3C0, 0x00), 0x3C0, 0x3F);
+    let mut out = [0u8; 16];
+    out[0] = seen(b, 0x3C1);
+    out[1] = seen(b, 0x3C0);
+    out[2] = c.get(Group::Ar, 0x10);
+    out[3] = d.get(Group::Ar, 0x00);
+    out
+}
+
+// P1.4. 3C0h gets E5h; index 15h gets FFh; writes to 3C1h, 3BAh and 3DAh.
+fn case_p1_4() -> [u8; 16] {
+    let a = after(Chip::new(0x02, 0x00), 0x3C0, 0xE5);
+    let b = after(after(after(a, 0x3C0, 0x00), 0x3C0, 0x15), 0x3C0, 0xFF);
+    let mut out = [0u8; 16];
+    out[0] = seen(a, 0x3C0);
+    out[1] = seen(b, 0x3C1);
+    out[2] = refusal(b, 0x3C1, 0x01);
+    out[3] = refusal(b, 0x3BA, 0x02);
+    out[4] = refusal(b, 0x3DA, 0x03);
+    out
+}
+
+// P1.5. SET AR11 07h, written as a file and translated: the first four of its commands.
+fn case_p1_5() -> [u8; 16] {
+    let mut file = [0u8; 512];
+    writer::write(&[1, 8, 0x11, 0x07, 0, 0], &mut file);
+    let mut out = [0u8; 32];
+    translate(&file, &mut out);
+    front(out)
+}
+
 fn main() {
     report(
         1,
@@ -307,5 +397,69 @@ fn main() {
         13,
         case_13(),
         [0xB8, 0x9F, 0, 0, 0, 0, 0, 0, 0, 0, 0, 0, 0, 0, 0, 0],
+    );
+    report_request(
+        1,
+        1,
+        case_p1_1(),
+        [0x5A, 0x3F, 0x3F, 0x12, 0, 0, 0, 0, 0, 0, 0, 0, 0, 0, 0, 0],
+    );
+    report_request(
+        1,
+        2,
+        case_p1_2(),
+        [
+            0xFF,
+            0x07,
+            0x00,
+            0x00,
+            0x11,
+            0x22,
+            0x00,
+            0x10,
+            0,
+            0,
+            0,
+            0,
+            0,
+            0,
+            0,
+            0,
+        ],
+    );
+    report_request(
+        1,
+        3,
+        case_p1_3(),
+        [0x15, 0x20, 0x41, 0x3F, 0, 0, 0, 0, 0, 0, 0, 0, 0, 0, 0, 0],
+    );
+    report_request(
+        1,
+        4,
+        case_p1_4(),
+        [0x25, 0x00, 1, 1, 1, 0, 0, 0, 0, 0, 0, 0, 0, 0, 0, 0],
+    );
+    report_request(
+        1,
+        5,
+        case_p1_5(),
+        [
+            0x02,
+            0xBA,
+            0x03,
+            0x00,
+            0x02,
+            0xDA,
+            0x03,
+            0x00,
+            0x02,
+            0xC0,
+            0x03,
+            0x00,
+            0x03,
+            0x20,
+            0x11,
+            0x00,
+        ],
     );
 }

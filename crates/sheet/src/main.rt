@@ -1,6 +1,7 @@
 // The sheet that a volunteer lays beside the databook: every listed register, a line each in the order of
 // groups and indexes, with its writable bits and the byte that it reads after a reset with both pin bytes
-// FFh, as `CR 07 FF 00`; then MSR and PALMASK. All of it comes from `registers` and `chip`.
+// FFh, as `CR 07 FF 00`; MSR and PALMASK, which have no index, stand where their numbers are. All of it comes
+// from `registers` and `chip`.
 use chip::Chip;
 use libc::STDOUT_FILENO;
 use registers::Group;
@@ -71,4 +72,5 @@ fn main() {
         registers::writable(Group::Palmask, 0x00),
         chip.get(Group::Palmask, 0x00),
     );
+    print_group(chip, b'A', Group::Ar);
 }

@@ -26,7 +26,7 @@ mod raw {
     }
 }
 
-pub const STATE: usize = 2317;
+pub const STATE: usize = 2574;
 pub const NO_STATE: u8 = 255;
 
 pub fn reset(s: &mut [u8], first: u8, second: u8) -> u8 {

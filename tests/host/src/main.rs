@@ -61,7 +61,18 @@ fn port(r: &mut Random) -> u16 {
 }
 
 fn listed(r: &mut Random) -> u16 {
+    if r.one_in(4) {
+        // the attribute registers: 3C0h takes turns, so it comes most often, and input status 1 now and then
+        return r.of(&[0x3C0, 0x3C0, 0x3C0, 0x3C0, 0x3C1, 0x3C1, 0x3BA, 0x3DA]);
+    }
     0x3B0 + r.of(&[0x04, 0x05, 0x14, 0x15, 0x16, 0x17, 0x18, 0x19, 0x19, 0x19, 0x1E, 0x1F, 0x20, 0x21, 0x22, 0x23, 0x24, 0x25, 0x26, 0x27, 0x12, 0x1C])
+}
+
+/// A listed port, and seldom one that is listed for the other direction only.
+fn directed(r: &mut Random, write: bool) -> u16 {
+    let other: &[u16] = if write { &[0x3BA, 0x3C1, 0x3CC, 0x3DA] } else { &[0x3C2] };
+    let p = listed(r);
+    if other.contains(&p) && !r.one_in(16) { 0x3C0 } else { p }
 }
 
 /// A state to start from: a reset's, or any bytes, with the ports open more often than not.
@@ -124,9 +135,10 @@ fn accesses(rows: &Rows, r: &mut Random, rounds: usize, each: usize) -> usize {
 }
 
 fn command(r: &mut Random) -> [u8; 4] {
-    let p = if r.one_in(100) { r.next() as u16 } else { listed(r) };
+    let kind = r.below(100);
+    let p = if r.one_in(100) { r.next() as u16 } else { directed(r, kind >= 40) };
     let [low, high] = p.to_le_bytes();
-    match r.below(100) {
+    match kind {
         0 => [r.byte(), r.byte(), r.byte(), r.byte()],
         1..=19 => [2, low, high, 0],
         20..=39 => [3, r.byte(), r.byte(), 0],
@@ -224,16 +236,34 @@ fn transfers(r: &mut Random, rounds: usize) -> usize {
 
 fn step(r: &mut Random) -> [u8; 6] {
     if r.one_in(2000) {
-        return [r.byte() % 5, r.byte() % 10, r.byte(), r.byte(), r.byte(), 0];
+        return if r.one_in(2) { edge(r) } else { [r.byte() % 5, r.byte() % 10, r.byte(), r.byte(), r.byte(), 0] };
     }
-    let group = r.below(8) as u8;
-    let index = if group < 6 { r.byte() } else { 0 };
+    let group = r.below(9) as u8;
+    let index = match group {
+        0..=5 => r.byte(),
+        8 => r.below(0x15) as u8,
+        _ => 0,
+    };
     let mask = r.byte();
     match r.below(3) {
         0 => [1, group, index, r.byte(), 0, 0],
         1 => [2, group, index, r.byte() & mask, mask, 0],
         _ => [3, r.byte(), r.byte(), r.byte(), r.byte(), 0],
     }
+}
+
+/// A step at the edge of what may be named: AR14 is the last index, and AR the last group.
+fn edge(r: &mut Random) -> [u8; 6] {
+    let (group, index) = r.of(&[(8, 0x13), (8, 0x14), (8, 0x15), (8, 0x34), (9, 0x00), (9, 0x14)]);
+    let (value, mask) = (r.byte(), r.byte());
+    if r.one_in(2) { [1, group, index, value, 0, 0] } else { [2, group, index, value & mask, mask, 0] }
+}
+
+/// A step at the edge is put over one of a block, and the check mended.
+fn put_edge(r: &mut Random, block: &mut [u8]) {
+    let at = 6 + 6 * r.below(u32::from(block[2]).clamp(1, 84)) as usize;
+    block[at..at + 6].copy_from_slice(&edge(r));
+    script::mend(block);
 }
 
 /// Lists of steps written as files; those files, whole and damaged, checked and translated.
@@ -262,9 +292,10 @@ fn scripts(r: &mut Random, rounds: usize) -> [usize; 3] {
             let start = at / 512 * 512;
             let mend = r.one_in(2);
             if let Some(b) = file.get_mut(start..start + 512).filter(|_| mend) {
-                let sum = b[..510].chunks(2).fold(0u16, |n, w| n.wrapping_add(u16::from_le_bytes([w[0], w[1]])));
-                b[510..].copy_from_slice(&1u16.wrapping_sub(sum).to_le_bytes());
+                script::mend(b);
             }
+        } else if file.len() >= 512 && r.one_in(4) {
+            put_edge(r, &mut file[..512]);
         }
         if r.one_in(20) {
             file.truncate(r.below(file.len() as u32 + 1) as usize);
@@ -285,8 +316,9 @@ fn scripts(r: &mut Random, rounds: usize) -> [usize; 3] {
     accepted
 }
 
-/// Files, a few of them damaged, played on states whose indexes are stale and whose colour may be half loaded: what is left is what the
-/// commands do, and registers and colours are what the steps say by name. Closed ports refuse the first command.
+/// Files, a few of them damaged, played on states whose indexes and turn are stale and whose colour may be half loaded: what is left is
+/// what the commands do; registers, AR among them, and colours are what the steps say by name; and there is a picture if there was one.
+/// Closed ports refuse the first command.
 fn plays(rows: &Rows, r: &mut Random, rounds: usize) -> [usize; 2] {
     let (mut expected, mut by_name, mut refused) = (Vec::new(), 0, 0);
     for round in 0..rounds {
@@ -300,12 +332,15 @@ fn plays(rows: &Rows, r: &mut Random, rounds: usize) -> [usize; 2] {
         let written = library::write_script(&list, &mut file);
         if written.0 != 0 || r.one_in(10) {
             file[r.below(512) as usize] ^= 1 << r.below(8);
+        } else if r.one_in(10) {
+            put_edge(r, &mut file);
         }
         let room = if r.one_in(20) { r.below(32 * count as u32) } else { 32 * count as u32 + r.below(9) } as usize;
         let mut commands: Vec<u8> = (0..room).map(|_| r.byte()).collect();
         let mut kept = commands.clone();
-        let input = format!("play {round}: {:02X?} in {room} bytes", &list);
+        let input = format!("play {round}: {:02X?} in {room} bytes", &file[6..6 + 6 * count]);
         let before = Chip::from_bytes(&s);
+        let index = library::port_read(&mut s, 0x3C0);
         let got = library::play(&mut s, &file, &mut commands);
 
         let mut after = before.clone();
@@ -328,6 +363,7 @@ fn plays(rows: &Rows, r: &mut Random, rounds: usize) -> [usize; 2] {
         script::steps(&file).unwrap().iter().for_each(|step| said.apply(rows, step));
         expect(&format!("{input}, carried out"), got, (0, translated.1, 0));
         expect_bytes(&format!("{input}, by name"), &Chip::from_bytes(&s).named(), &said.named());
+        expect(&format!("{input}, bit 5 of 3C0h"), library::port_read(&mut s, 0x3C0).1 & 0x20, index.1 & 0x20);
         by_name += 1;
     }
     [by_name, refused]

@@ -1,5 +1,6 @@
-//! The chip, written from document 01 and from nothing else of this repository but the rows of registers, which are read from the
-//! definitions' text (crates/registers/specs): they are data, and have no second source here.
+//! The chip, written from documents 01 and 02 (P1) and from nothing else of this repository but the rows of registers, which are read
+//! from the definitions' text (crates/registers/specs): they are data, and have no second source here. The attribute registers' rows
+//! are the exception: they are written here, from chapter 12 of the databook.
 
 use std::collections::HashMap;
 
@@ -31,6 +32,9 @@ impl Rows {
             }
         }
         assert!(rows.len() > 200, "only {} rows of registers were found", rows.len());
+        // chapter 12 gives no reset, so it is 00h
+        rows.extend((0x00..=0x0F).map(|i| ((AR, i), (0x3F, 0))));
+        rows.extend([(0x10, 0xEF), (0x11, 0xFF), (0x12, 0x3F), (0x13, 0x0F), (0x14, 0x0F)].map(|(i, mask)| ((AR, i), (mask, 0))));
         Rows(rows)
     }
 
@@ -45,8 +49,8 @@ impl Rows {
 
 #[derive(Clone, PartialEq, Debug)]
 pub struct Chip {
-    tables: [[u8; 256]; 6],
-    indexes: [u8; 6],
+    tables: [[u8; 256]; 7],
+    indexes: [u8; 7],
     msr: u8,
     palmask: u8,
     palette: [[u8; 3]; 256],
@@ -54,6 +58,10 @@ pub struct Chip {
     position: u8,
     held: [u8; 2],
     reading: bool,
+    /// Port 3C0h takes data next.
+    turn: bool,
+    /// Bit 5 of the attribute index; the table `indexes` has the low five.
+    picture: bool,
     spare: u8,
 }
 
@@ -61,6 +69,12 @@ const CR: usize = 0;
 const XR: usize = 3;
 const MSR: usize = 6;
 const PALMASK: usize = 7;
+const AR: usize = 8;
+
+/// The place of an indexed group's table and index: AR, group 8, comes after the six.
+fn table(g: usize) -> usize {
+    if g == AR { 6 } else { g }
+}
 
 /// What a port leads to.
 enum Port {
@@ -71,15 +85,17 @@ enum Port {
     ReadIndex,
     WriteIndex,
     Paldata,
+    Attribute,
+    Status,
     NotPicked,
 }
 
 impl Chip {
     pub fn reset(rows: &Rows, first: u8, second: u8) -> Chip {
-        let mut tables = [[0; 256]; 6];
-        for (g, table) in tables.iter_mut().enumerate() {
+        let mut tables = [[0; 256]; 7];
+        for g in [0, 1, 2, 3, 4, 5, AR] {
             for i in 0..=255u8 {
-                table[i as usize] = rows.reset(g, i);
+                tables[table(g)][i as usize] = rows.reset(g, i);
             }
         }
         tables[XR][0x70] = first | 1;
@@ -87,7 +103,7 @@ impl Chip {
         tables[XR][0x08] = first & 2;
         Chip {
             tables,
-            indexes: [0; 6],
+            indexes: [0; 7],
             msr: 0,
             palmask: 0,
             palette: [[0; 3]; 256],
@@ -95,23 +111,27 @@ impl Chip {
             position: 0,
             held: [0; 2],
             reading: false,
+            turn: false,
+            picture: false,
             spare: 0,
         }
     }
 
-    /// The chip that bytes hold: the tables, the palette, MSR and PALMASK, the indexes, the palette's loading state.
+    /// The chip that bytes hold: the tables, the palette, MSR and PALMASK, the indexes, the palette's loading state, and last the flags:
+    /// bit 0 is that of the palette's loading state, bit 1 the turn, bit 2 the picture.
     pub fn from_bytes(b: &[u8]) -> Chip {
         let mut at = b.iter().copied();
         let mut next = || at.next().unwrap();
-        let mut tables = [[0; 256]; 6];
+        let mut tables = [[0; 256]; 7];
         tables.iter_mut().flatten().for_each(|x| *x = next());
         let mut palette = [[0; 3]; 256];
         palette.iter_mut().flatten().for_each(|x| *x = next());
         let (msr, palmask) = (next(), next());
-        let mut indexes = [0; 6];
+        let mut indexes = [0; 7];
         indexes.iter_mut().for_each(|x| *x = next());
-        let (index, position, held, last) = (next(), next(), [next(), next()], next());
-        Chip { tables, indexes, msr, palmask, palette, index, position, held, reading: last & 1 == 1, spare: last >> 1 }
+        let (index, position, held, flags) = (next(), next(), [next(), next()], next());
+        let (reading, turn, picture) = (flags & 1 != 0, flags & 2 != 0, flags & 4 != 0);
+        Chip { tables, indexes, msr, palmask, palette, index, position, held, reading, turn, picture, spare: flags >> 3 }
     }
 
     pub fn to_bytes(&self, out: &mut Vec<u8>) {
@@ -120,7 +140,8 @@ impl Chip {
         out.extend(self.palette.iter().flatten());
         out.extend([self.msr, self.palmask]);
         out.extend(self.indexes);
-        out.extend([self.index, self.position, self.held[0], self.held[1], self.spare << 1 | self.reading as u8]);
+        let flags = self.spare << 3 | u8::from(self.picture) << 2 | u8::from(self.turn) << 1 | u8::from(self.reading);
+        out.extend([self.index, self.position, self.held[0], self.held[1], flags]);
     }
 
     fn leads(&self, port: u16, write: bool) -> Option<Port> {
@@ -146,6 +167,10 @@ impl Chip {
             0x3C7 => Port::ReadIndex,
             0x3C8 => Port::WriteIndex,
             0x3C9 => Port::Paldata,
+            0x3C0 => Port::Attribute,
+            0x3C1 if !write => Port::Data(AR),
+            0x3BA if !write => picked(false, Port::Status),
+            0x3DA if !write => picked(true, Port::Status),
             _ => return None,
         })
     }
@@ -178,12 +203,17 @@ impl Chip {
         (0..8).map(|k| 1 << k).map(|bit| if mask & bit != 0 { v & bit } else { old & bit }).sum()
     }
 
+    /// What names a register of a group at its data port; of the attribute index, the low five bits.
+    fn index_of(&self, g: usize) -> u8 {
+        if g == AR { self.indexes[table(AR)] & 0x1F } else { self.indexes[g] }
+    }
+
     /// The byte of a register, by name.
     fn get(&self, g: usize, i: u8) -> u8 {
         match g {
             MSR => self.msr,
             PALMASK => self.palmask,
-            _ => self.tables[g][i as usize],
+            _ => self.tables[table(g)][i as usize],
         }
     }
 
@@ -197,11 +227,15 @@ impl Chip {
         if g == CR && i <= 7 && self.tables[CR][0x11] & 0x80 != 0 {
             mask &= if i == 7 { 0x10 } else { 0 };
         }
+        // chapter 12: with the picture on, AR00 to AR0F are out of reach
+        if g == AR && i <= 0x0F && self.picture {
+            mask = 0;
+        }
         let byte = Chip::write_rule(self.get(g, i), v, mask);
         match g {
             MSR => self.msr = byte,
             PALMASK => self.palmask = byte,
-            _ => self.tables[g][i as usize] = byte,
+            _ => self.tables[table(g)][i as usize] = byte,
         }
     }
 
@@ -219,11 +253,11 @@ impl Chip {
         }
     }
 
-    /// What has a name: the registers and the colours.
+    /// What has a name: the registers, AR among them, the colours, and whether there is a picture.
     pub fn named(&self) -> Vec<u8> {
         let mut bytes: Vec<u8> = self.tables.iter().flatten().copied().collect();
         bytes.extend(self.palette.iter().flatten());
-        bytes.extend([self.msr, self.palmask]);
+        bytes.extend([self.msr, self.palmask, u8::from(self.picture)]);
         bytes
     }
 
@@ -234,7 +268,7 @@ impl Chip {
         let Some(p) = self.leads(port, true) else { return 1 };
         match p {
             Port::Index(g) => self.indexes[g] = v,
-            Port::Data(g) => self.put(rows, g, self.indexes[g], v),
+            Port::Data(g) => self.put(rows, g, self.index_of(g), v),
             Port::Msr => self.put(rows, MSR, 0, v),
             Port::Palmask => self.put(rows, PALMASK, 0, v),
             Port::ReadIndex => (self.index, self.position, self.reading) = (v, 0, true),
@@ -246,6 +280,16 @@ impl Chip {
                 }
                 self.move_on();
             }
+            Port::Attribute => {
+                if self.turn {
+                    self.put(rows, AR, self.index_of(AR), v);
+                } else {
+                    self.indexes[table(AR)] = v & 0x1F;
+                    self.picture = v & 0x20 != 0;
+                }
+                self.turn = !self.turn;
+            }
+            Port::Status => unreachable!("no write leads to input status 1"),
             Port::NotPicked => {}
         }
         0
@@ -258,7 +302,7 @@ impl Chip {
         let Some(p) = self.leads(port, false) else { return (1, 0xFF) };
         let v = match p {
             Port::Index(g) => self.indexes[g],
-            Port::Data(g) => self.tables[g][self.indexes[g] as usize],
+            Port::Data(g) => self.get(g, self.index_of(g)),
             Port::Msr => self.msr,
             Port::Palmask => self.palmask,
             Port::ReadIndex => if self.reading { 3 } else { 0 },
@@ -267,6 +311,11 @@ impl Chip {
                 let v = self.by_mode(self.palette[self.index as usize][self.at()]);
                 self.move_on();
                 v
+            }
+            Port::Attribute => self.index_of(AR) | if self.picture { 0x20 } else { 0 },
+            Port::Status => {
+                self.turn = false;
+                0
             }
             Port::NotPicked => 0xFF,
         };

@@ -1,10 +1,20 @@
-//! Scripts, written from document 01: a file checked, a list of steps written as a file, a file translated into commands.
+//! Scripts, written from documents 01 and 02 (P1): a file checked, a list of steps written as a file, a file translated into commands.
 //! Each answers a number and a value.
+
+/// Whether a step may name the register.
+fn is_name(group: u8, index: u8) -> bool {
+    match group {
+        0..=5 => true,
+        6 | 7 => index == 0,
+        8 => index <= 0x14,
+        _ => false,
+    }
+}
 
 fn is_step(s: &[u8]) -> bool {
     match s[0] {
-        1 => s[1] <= 7 && (s[1] < 6 || s[2] == 0) && s[4] == 0 && s[5] == 0,
-        2 => s[1] <= 7 && (s[1] < 6 || s[2] == 0) && s[3] & !s[4] == 0 && s[5] == 0,
+        1 => is_name(s[1], s[2]) && s[4] == 0 && s[5] == 0,
+        2 => is_name(s[1], s[2]) && s[3] & !s[4] == 0 && s[5] == 0,
         3 => s[5] == 0,
         _ => false,
     }
@@ -47,11 +57,17 @@ pub fn check(file: &[u8]) -> (u8, usize) {
     steps(file).map_or_else(|e| e, |list| (0, list.len()))
 }
 
+/// Puts the right check into a block.
+pub fn mend(b: &mut [u8]) {
+    let check = 1u16.wrapping_sub(sum(&b[..510]));
+    b[510..].copy_from_slice(&check.to_le_bytes());
+}
+
 fn block(number: usize, steps: &[u8], last: bool) -> Vec<u8> {
     let mut b = vec![number as u8, 0, (steps.len() / 6) as u8, u8::from(last), 0, 0];
     b.extend(steps);
-    b.resize(510, 0);
-    b.extend(1u16.wrapping_sub(sum(&b)).to_le_bytes());
+    b.resize(512, 0);
+    mend(&mut b);
     b
 }
 
@@ -75,7 +91,19 @@ fn out(port: u16, v: u8) -> [u8; 4] {
     [1, port as u8, (port >> 8) as u8, v]
 }
 
-/// The commands of a step; a pair is an index port and a data port, and MSR and PALMASK have a port to read and one to write.
+/// IN to the accumulator.
+fn read_in(port: u16) -> [u8; 4] {
+    [2, port as u8, (port >> 8) as u8, 0]
+}
+
+/// OUT of the accumulator.
+fn out_held(port: u16) -> [u8; 4] {
+    [4, port as u8, (port >> 8) as u8, 0]
+}
+
+/// The commands of a step; a pair is an index port and a data port, and MSR and PALMASK have a port to read and one to write. Before
+/// the attribute index is written, input status 1 is read at both its ports, one of which returns the turn, and bit 5 of the index
+/// is read, to be written again.
 fn expanded(s: &[u8]) -> Vec<[u8; 4]> {
     let pairs: &[u16] = match s[1] {
         0 => &[0x3B4, 0x3D4],
@@ -85,16 +113,17 @@ fn expanded(s: &[u8]) -> Vec<[u8; 4]> {
         4 => &[0x3D0],
         _ => &[0x3D2],
     };
-    let change = |read: u16, write: u16| {
-        vec![[2, read as u8, (read >> 8) as u8, 0], [3, !s[4], s[3], 0], [4, write as u8, (write >> 8) as u8, 0]]
-    };
+    let change = |read: u16, write: u16| vec![read_in(read), [3, !s[4], s[3], 0], out_held(write)];
+    let aimed = vec![read_in(0x3BA), read_in(0x3DA), read_in(0x3C0), [3, 0x20, s[2], 0], out_held(0x3C0)];
     match (s[0], s[1]) {
         (3, _) => vec![out(0x3C8, s[1]), out(0x3C9, s[2]), out(0x3C9, s[3]), out(0x3C9, s[4])],
         (1, 6) => vec![out(0x3C2, s[3])],
         (1, 7) => vec![out(0x3C6, s[3])],
+        (1, 8) => [aimed, vec![out(0x3C0, s[3])]].concat(),
         (1, _) => pairs.iter().flat_map(|&p| [out(p, s[2]), out(p + 1, s[3])]).collect(),
         (_, 6) => change(0x3CC, 0x3C2),
         (_, 7) => change(0x3C6, 0x3C6),
+        (_, 8) => [aimed, change(0x3C1, 0x3C0)].concat(),
         (_, _) => pairs.iter().flat_map(|&p| [vec![out(p, s[2])], change(p + 1, p + 1)].concat()).collect(),
     }
 }
