@@ -68,15 +68,21 @@ picture-held h = ap (λ (d : Chip). d .picture) (h .chip)
 -- one flag is replaced
 pub then-reading : {l : List ℕ} {c : Chip} {b v : ℕ} (bit : Bool) → Holds l c b → v ≡ getD l 2573 0 / 2 * 2 + cond bit 1 0
     → Holds (set l 2573 v) (withLoading c (record { index = c .loading .index; position = c .loading .position; red = c .loading .red; green = c .loading .green; reading = bit })) b
-then-reading {l} {v = v} bit h e = let f = reading-put (getD l 2573 0) v (cond bit 1 0) (below-two bit) e in then-flags v h (f .spare) (tested bit (f .reading)) (rw (f .turn) (turn-held h)) (rw (f .picture) (picture-held h))
+then-reading {l} {v = v} bit h e =
+    let f = reading-put (getD l 2573 0) v (cond bit 1 0) (below-two bit) e in
+    then-flags v h (f .spare) (tested bit (f .reading)) (rw (f .turn) (turn-held h)) (rw (f .picture) (picture-held h))
 
 pub then-turn : {l : List ℕ} {c : Chip} {b v : ℕ} (bit : Bool) → Holds l c b → v ≡ getD l 2573 0 / 4 * 4 + getD l 2573 0 % 2 + 2 * cond bit 1 0
     → Holds (set l 2573 v) (withIndexes c (withTurn (c .indexes) bit)) b
-then-turn {l} {v = v} bit h e = let f = turn-put (getD l 2573 0) v (cond bit 1 0) (below-two bit) e in then-flags v h (f .spare) (rw (f .reading) (reading-held h)) (tested bit (f .turn)) (rw (f .picture) (picture-held h))
+then-turn {l} {v = v} bit h e =
+    let f = turn-put (getD l 2573 0) v (cond bit 1 0) (below-two bit) e in
+    then-flags v h (f .spare) (rw (f .reading) (reading-held h)) (tested bit (f .turn)) (rw (f .picture) (picture-held h))
 
 pub then-picture : {l : List ℕ} {c : Chip} {b v : ℕ} (bit : Bool) → Holds l c b → v ≡ getD l 2573 0 / 8 * 8 + getD l 2573 0 % 4 + 4 * cond bit 1 0
     → Holds (set l 2573 v) (withNamed c (withPicture (named c) bit)) b
-then-picture {l} {v = v} bit h e = let f = picture-put (getD l 2573 0) v (cond bit 1 0) (below-two bit) e in then-flags v h (f .spare) (rw (f .reading) (reading-held h)) (rw (f .turn) (turn-held h)) (tested bit (f .picture))
+then-picture {l} {v = v} bit h e =
+    let f = picture-put (getD l 2573 0) v (cond bit 1 0) (below-two bit) e in
+    then-flags v h (f .spare) (rw (f .reading) (reading-held h)) (rw (f .turn) (turn-held h)) (tested bit (f .picture))
 
 -- the turn is set by a callee, which says so of the bytes that it got
 pub turned : {l m : List ℕ} {c : Chip} {b : ℕ} (bit : Bool) → Holds l c b → Holds m (withIndexes (view l) (withTurn (view l .indexes) bit)) (spare l)
