@@ -3,10 +3,11 @@ use Prim.Native.Nat.{ℕ, zero, suc, _+_, _*_, _-_, _/_, _%_, _^_, _<_, _≤_}
 use native.Mathlib.Omega.{arith}
 use mathlib.Core.Path.{_≡_, refl, ap, sym, _∙_}
 use lib.Pow.{shr-shr}
-use Rattle.registers.specs.Groups.{numberOf, groupAt, writableOf}
+use Rattle.registers.specs.Groups.{tableAt, rowOf, writableOf}
 use Rattle.registers.specs.declared.Group.{Group}
-use Rattle.registers.proofs.TableLaws.{group-numbered, byte-rows}
-use Rattle.masks.specs.Table.{packed, lineOf}
+use Rattle.registers.specs.declared.Group.the-variants.{Cr, Sr, Gr, Xr, Fr, Mr, Msr, Palmask, Ar}
+use Rattle.registers.proofs.TableLaws.{byte-rows}
+use Rattle.masks.specs.Table.{packed, lineOf, tableOf}
 
 -- byte j of those that are packed, d before the last
 pub packed-at : (f : ℕ → ℕ) → ((j : ℕ) → f j < 256) → (d j n : ℕ) → d + j ≡ n → packed f (suc n) / 2 ^ (8 * d) % 256 ≡ f j
@@ -21,16 +22,39 @@ packed-at f h (suc d) j (suc n) e =
     ∙ ap (λ (x : ℕ). x % 256) (sym (shr-shr (packed f (suc (suc n))) 8 (8 * d)) ∙ ap (λ (x : ℕ). x / 2 ^ (8 * d)) cut)
     ∙ packed-at f h d j n (omega arith)
 
-pub by-number : (g : Group) (n i : ℕ) → numberOf g ≡ n → writableOf g i ≡ writableOf (groupAt n) i
-by-number g n i e = ap (λ (h : Group). writableOf h i) (sym (group-numbered g) ∙ ap groupAt e)
+-- the group of a group's table is the group, where it has one
+pub table-numbered : (g : Group) → tableOf g < 8 → tableAt (tableOf g) ≡ g
+unfolding tableAt
+table-numbered Cr h = refl
+table-numbered Sr h = refl
+table-numbered Gr h = refl
+table-numbered Xr h = refl
+table-numbered Fr h = refl
+table-numbered Mr h = refl
+table-numbered Msr h = absurd (omega arith)
+table-numbered Palmask h = refl
+table-numbered Ar h = refl
 
-pub in-line : (g : Group) (i : ℕ) → i < 256 → lineOf (32 * numberOf g + i / 8) / 2 ^ (8 * (7 - i % 8)) % 256 ≡ writableOf g i
+-- the group without lines is MSR
+pub without-lines : (g : Group) (i : ℕ) → tableOf g ≡ 8 → writableOf g i ≡ 0xEF
+unfolding rowOf
+without-lines Cr i e = absurd (omega arith)
+without-lines Sr i e = absurd (omega arith)
+without-lines Gr i e = absurd (omega arith)
+without-lines Xr i e = absurd (omega arith)
+without-lines Fr i e = absurd (omega arith)
+without-lines Mr i e = absurd (omega arith)
+without-lines Msr i e = refl
+without-lines Palmask i e = absurd (omega arith)
+without-lines Ar i e = absurd (omega arith)
+
+pub in-line : (g : Group) (i : ℕ) → tableOf g < 8 → i < 256 → lineOf (32 * tableOf g + i / 8) / 2 ^ (8 * (7 - i % 8)) % 256 ≡ writableOf g i
 unfolding lineOf
-in-line g i h =
-    let table : (32 * numberOf g + i / 8) / 32 ≡ numberOf g = omega arith in
-    let place : 8 * ((32 * numberOf g + i / 8) % 32) + i % 8 ≡ i = omega arith in
-    packed-at (λ j. writableOf (groupAt ((32 * numberOf g + i / 8) / 32)) (8 * ((32 * numberOf g + i / 8) % 32) + j)) (λ j. byte-rows _ _ .0) (7 - i % 8) (i % 8) 7 (omega arith)
-    ∙ rw (table, group-numbered g, place)
+in-line g i t h =
+    let table : (32 * tableOf g + i / 8) / 32 ≡ tableOf g = omega arith in
+    let place : 8 * ((32 * tableOf g + i / 8) % 32) + i % 8 ≡ i = omega arith in
+    packed-at (λ j. writableOf (tableAt ((32 * tableOf g + i / 8) / 32)) (8 * ((32 * tableOf g + i / 8) % 32) + j)) (λ j. byte-rows _ _ .0) (7 - i % 8) (i % 8) 7 (omega arith)
+    ∙ rw (table, table-numbered g t, place)
 
 -- the number is none of those below n: what a match says in its last arm
 abbrev pub NotBelow : ℕ → ℕ → Type 0

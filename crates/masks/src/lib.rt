@@ -4,15 +4,14 @@
 // every index of every group, so what has to be believed stays in one place.
 ghost use mathlib.Core.Path.{_≡_};
 ghost use Prim.Native.Nat.{_<_};
-ghost use Rattle.registers.specs.Groups.{numberOf, writableOf};
-ghost use Rattle.masks.specs.Table.{lineOf};
+ghost use Rattle.registers.specs.Groups.{writableOf};
+ghost use Rattle.masks.specs.Table.{tableOf, lineOf};
 use registers::Group;
 
 // A line of the table: the writable bits of eight registers, a byte each, the first at the left. A group has 32
-// lines, and PALMASK none. Lines without a register stand there like the others: of arms without a gap the
-// compiler makes a table.
+// lines, and MSR none. Lines without a register stand there like the others: of arms without a gap the compiler
+// makes a table.
 fn line(k: u8) -> u64
-    requires { ⌜ k < 0xE0 ⌝ }
     ensures { λ r. ⌜ r ≡ lineOf k ⌝ }
 {
     match k {
@@ -214,14 +213,47 @@ fn line(k: u8) -> u64
         0xBD => 0x00_00_00_00_00_00_00_00,
         0xBE => 0x00_00_00_00_00_00_00_00,
         0xBF => 0x00_00_00_00_00_00_00_00,
-        // MSR.
-        _ => 0xEF_EF_EF_EF_EF_EF_EF_EF,
+        // Chapter 12, attribute controller registers.
+        0xC0 => 0x3F_3F_3F_3F_3F_3F_3F_3F,
+        0xC1 => 0x3F_3F_3F_3F_3F_3F_3F_3F,
+        0xC2 => 0xEF_FF_3F_0F_0F_00_00_00,
+        0xC3 => 0x00_00_00_00_00_00_00_00,
+        0xC4 => 0x00_00_00_00_00_00_00_00,
+        0xC5 => 0x00_00_00_00_00_00_00_00,
+        0xC6 => 0x00_00_00_00_00_00_00_00,
+        0xC7 => 0x00_00_00_00_00_00_00_00,
+        0xC8 => 0x00_00_00_00_00_00_00_00,
+        0xC9 => 0x00_00_00_00_00_00_00_00,
+        0xCA => 0x00_00_00_00_00_00_00_00,
+        0xCB => 0x00_00_00_00_00_00_00_00,
+        0xCC => 0x00_00_00_00_00_00_00_00,
+        0xCD => 0x00_00_00_00_00_00_00_00,
+        0xCE => 0x00_00_00_00_00_00_00_00,
+        0xCF => 0x00_00_00_00_00_00_00_00,
+        0xD0 => 0x00_00_00_00_00_00_00_00,
+        0xD1 => 0x00_00_00_00_00_00_00_00,
+        0xD2 => 0x00_00_00_00_00_00_00_00,
+        0xD3 => 0x00_00_00_00_00_00_00_00,
+        0xD4 => 0x00_00_00_00_00_00_00_00,
+        0xD5 => 0x00_00_00_00_00_00_00_00,
+        0xD6 => 0x00_00_00_00_00_00_00_00,
+        0xD7 => 0x00_00_00_00_00_00_00_00,
+        0xD8 => 0x00_00_00_00_00_00_00_00,
+        0xD9 => 0x00_00_00_00_00_00_00_00,
+        0xDA => 0x00_00_00_00_00_00_00_00,
+        0xDB => 0x00_00_00_00_00_00_00_00,
+        0xDC => 0x00_00_00_00_00_00_00_00,
+        0xDD => 0x00_00_00_00_00_00_00_00,
+        0xDE => 0x00_00_00_00_00_00_00_00,
+        0xDF => 0x00_00_00_00_00_00_00_00,
+        // PALMASK.
+        _ => 0xFF_FF_FF_FF_FF_FF_FF_FF,
     }
 }
 
-// A group's number.
-fn number(g: Group) -> u8
-    ensures { λ r. ⌜ (r ≡ numberOf g) × (r < 8) ⌝ }
+// Which 32 lines are a group's, by number; 8 for MSR, which has none.
+fn table(g: Group) -> u8
+    ensures { λ r. ⌜ (r ≡ tableOf g) × (r < 9) ⌝ }
 {
     match g {
         Group::Cr => 0,
@@ -230,8 +262,9 @@ fn number(g: Group) -> u8
         Group::Xr => 3,
         Group::Fr => 4,
         Group::Mr => 5,
-        Group::Msr => 6,
+        Group::Msr => 8,
         Group::Palmask => 7,
+        Group::Ar => 6,
     }
 }
 
@@ -239,9 +272,9 @@ fn number(g: Group) -> u8
 pub fn writable(g: Group, i: u8) -> u8
     ensures { λ r. ⌜ r ≡ writableOf g i ⌝ }
 {
-    let n = number(g);
-    if n == 7 {
-        return 0xFF;
+    let n = table(g);
+    if n == 8 {
+        return 0xEF;
     }
     let eight = line(32 * n + i / 8);
     ((eight >> (8 * (7 - i % 8))) % 256) as u8

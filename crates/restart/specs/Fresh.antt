@@ -3,18 +3,18 @@ use Prim.Native.Nat.{ℕ, _/_, _%_}
 use mathlib.Core.Bool.{cond}
 use mathlib.Core.List.{List}
 use lib.Dec.{eqb, ltb}
-use Rattle.registers.specs.Groups.{groupAt}
+use Rattle.registers.specs.Groups.{tableAt}
 use Rattle.registers.specs.declared.Group.the-variants.{Msr, Palmask}
 use Rattle.chip.specs.Reset.{resetByte}
 use Rattle.state.specs.Accesses.{isState}
 use Rattle.restart.specs.declared.Restarted.{Restarted}
 use Rattle.restart.specs.declared.Restarted.the-variants.{Done, Length}
 
--- byte k: a register's reset byte in the tables, which stand in the order of the groups' numbers, MSR's and PALMASK's behind the palette, and 0 elsewhere
+-- byte k: a register's reset byte in the tables, MSR's and PALMASK's behind the palette, and 0 elsewhere
 unfoldable pub freshByte : ℕ → ℕ → ℕ → ℕ
 freshByte first second k =
-    cond (ltb k 1536) (resetByte first second (groupAt (k / 256)) (k % 256))
-    (cond (eqb k 2304) (resetByte first second Msr 0x00) (cond (eqb k 2305) (resetByte first second Palmask 0x00) 0))
+    cond (ltb k 1792) (resetByte first second (tableAt (k / 256)) (k % 256))
+    (cond (eqb k 2560) (resetByte first second Msr 0x00) (cond (eqb k 2561) (resetByte first second Palmask 0x00) 0))
 
 abbrev pub restartAnswer : List ℕ → Restarted
 restartAnswer l = cond (isState l) Done Length

@@ -1,10 +1,11 @@
-// A reset on lent bytes. Document 01, "Registers" and "Palette": what a reset leaves, by its two pin bytes.
+// A reset on lent bytes. Document 01, "Registers" and "Palette", and document 02, P1: what a reset leaves, by its
+// two pin bytes.
 // Whatever the bytes held, they hold afterwards the chip that crate `chip`'s reset gives, and their spare bits
 // (crate `state`, specs/Layout) are 0: a host need not clear the bytes before the first reset.
 ghost use mathlib.Core.Path.{_≡_};
 ghost use Prim.Native.Nat.{_<_};
 ghost use lib.ListN.{length};
-ghost use Rattle.registers.specs.Groups.{groupAt};
+ghost use Rattle.registers.specs.Groups.{tableAt};
 ghost use Rattle.chip.specs.Reset.{reset as resetOf};
 ghost use Rattle.state.specs.Layout.{whole, Holds};
 ghost use Rattle.state.specs.Accesses.{Left};
@@ -20,9 +21,9 @@ pub enum Restarted {
     Length,
 }
 
-// The group of a number.
-fn group_at(q: usize) -> Group
-    ensures { λ r. ⌜ r ≡ groupAt q ⌝ }
+// The group of a table.
+fn table_at(q: usize) -> Group
+    ensures { λ r. ⌜ r ≡ tableAt q ⌝ }
 {
     if q == 0 {
         return Group::Cr;
@@ -43,7 +44,7 @@ fn group_at(q: usize) -> Group
         return Group::Mr;
     }
     if q == 6 {
-        return Group::Msr;
+        return Group::Ar;
     }
     Group::Palmask
 }
@@ -52,13 +53,13 @@ fn group_at(q: usize) -> Group
 fn fresh(k: usize, first: u8, second: u8) -> u8
     ensures { λ r. ⌜ r ≡ freshByte first second k ⌝ }
 {
-    if k < 1536 {
-        return after_reset(group_at(k / 256), (k % 256) as u8, first, second);
+    if k < 1792 {
+        return after_reset(table_at(k / 256), (k % 256) as u8, first, second);
     }
-    if k == 2304 {
+    if k == 2560 {
         return after_reset(Group::Msr, 0x00, first, second);
     }
-    if k == 2305 {
+    if k == 2561 {
         return after_reset(Group::Palmask, 0x00, first, second);
     }
     0

@@ -1,7 +1,7 @@
 -- A store of one byte, as a change of the chip. The regions do not overlap, so a store changes one cell (`cell-set`); with the
 -- region a literal every other part of the chip computes back to what it was. Then the same for a register, for the three bytes
 -- of an entry, and for a single byte.
-use Prim.Native.Nat.{ℕ, suc, zero, _+_, _*_, _%_, _<_, _≤_}
+use Prim.Native.Nat.{ℕ, suc, zero, _+_, _*_, _/_, _%_, _<_, _≤_}
 use mathlib.Core.Path.{_≡_, refl, ap, fun-ext, _∙_}
 use mathlib.Core.Bool.{Bool, true, false, cond}
 use mathlib.Core.List.{List, _∷_}
@@ -12,7 +12,7 @@ use native.Mathlib.Nat.{add-zero}
 use native.Mathlib.Omega.{arith}
 use borrow.Author.Tests.{ltb-true, ltb-false, eqb-true, eqb-false, lt-ltb, eq-eqb, ne-eqb}
 use Rattle.registers.specs.declared.Group.{Group}
-use Rattle.registers.specs.declared.Group.the-variants.{Cr, Sr, Gr, Xr, Fr, Mr, Msr, Palmask}
+use Rattle.registers.specs.declared.Group.the-variants.{Cr, Sr, Gr, Xr, Fr, Mr, Msr, Palmask, Ar}
 use Rattle.chip.specs.State.{named, join, withNamed}
 use Rattle.chip.specs.Names.{register, replaced}
 use Rattle.chip.specs.Palette.{rgb, entry, withPalette}
@@ -25,7 +25,7 @@ abbrev pub update : (ℕ → ℕ → ℕ) → ℕ → ℕ → ℕ → ℕ → �
 update s q i v r k = cond (eqb r q) (cond (eqb k i) v (s r k)) (s r k)
 
 -- the regions fill a state
-pub regions-fill : start 8 ≡ whole
+pub regions-fill : start 9 ≡ whole
 regions-fill = refl
 
 -- the regions do not overlap
@@ -91,8 +91,9 @@ set-reg Gr l i v n h = view-set l 2 i v h (omega arith) ∙ rw (table-set (cell 
 set-reg Xr l i v n h = view-set l 3 i v h (omega arith) ∙ rw (table-set (cell l 3) 256 i v h)
 set-reg Fr l i v n h = view-set l 4 i v h (omega arith) ∙ rw (table-set (cell l 4) 256 i v h)
 set-reg Mr l i v n h = view-set l 5 i v h (omega arith) ∙ rw (table-set (cell l 5) 256 i v h)
-set-reg Msr l i v n h = view-set l 7 0 v (omega arith) (omega arith)
-set-reg Palmask l i v n h = view-set l 7 1 v (omega arith) (omega arith)
+set-reg Msr l i v n h = view-set l 8 0 v (omega arith) (omega arith)
+set-reg Palmask l i v n h = view-set l 8 1 v (omega arith) (omega arith)
+set-reg Ar l i v n h = view-set l 6 i v h (omega arith) ∙ rw (table-set (cell l 6) 256 i v h)
 
 pub get-table : (l : List ℕ) (q i : ℕ) → i < size q → getD (rows (cell l q) (size q)) i 0 ≡ getD l (start q + i) 0
 unfolding cell
@@ -108,6 +109,7 @@ get-reg Fr l i h = get-table l 4 i h
 get-reg Mr l i h = get-table l 5 i h
 get-reg Msr l i h = refl
 get-reg Palmask l i h = refl
+get-reg Ar l i h = get-table l 6 i h
 
 -- a colour's three bytes stored
 abbrev three : (ℕ → ℕ) → ℕ → ℕ → ℕ → ℕ → ℕ → ℕ
@@ -136,31 +138,31 @@ colours-set s n e r g b h =
     ∙ rw (three-red s e r g b, three-green s e r g b, three-blue s e r g b)
 
 set-colour₁ : (l : List ℕ) (e r g b : ℕ) → length l ≡ whole → e < 256 →
-    view (set (set (set l (1536 + 3 * e) r) (1536 + (3 * e + 1)) g) (1536 + (3 * e + 2)) b) ≡ withNamed (view l) (withPalette (named (view l)) (set (view l .palette) e (rgb r g b)))
+    view (set (set (set l (1792 + 3 * e) r) (1792 + (3 * e + 1)) g) (1792 + (3 * e + 2)) b) ≡ withNamed (view l) (withPalette (named (view l)) (set (view l .palette) e (rgb r g b)))
 unfolding view
 set-colour₁ l e r g b n h =
     ap chipOf
-    (cell-set (set (set l (1536 + 3 * e) r) (1536 + (3 * e + 1)) g) 6 (3 * e + 2) b (omega arith) (simp length-set (omega arith))
-    ∙ ap (λ (s : ℕ → ℕ → ℕ). update s 6 (3 * e + 2) b)
-    (cell-set (set l (1536 + 3 * e) r) 6 (3 * e + 1) g (omega arith) (simp length-set (omega arith))
-    ∙ ap (λ (s : ℕ → ℕ → ℕ). update s 6 (3 * e + 1) g) (cell-set l 6 (3 * e) r (omega arith) (omega arith))))
-    ∙ rw (colours-set (cell l 6) 256 e r g b h)
+    (cell-set (set (set l (1792 + 3 * e) r) (1792 + (3 * e + 1)) g) 7 (3 * e + 2) b (omega arith) (simp length-set (omega arith))
+    ∙ ap (λ (s : ℕ → ℕ → ℕ). update s 7 (3 * e + 2) b)
+    (cell-set (set l (1792 + 3 * e) r) 7 (3 * e + 1) g (omega arith) (simp length-set (omega arith))
+    ∙ ap (λ (s : ℕ → ℕ → ℕ). update s 7 (3 * e + 1) g) (cell-set l 7 (3 * e) r (omega arith) (omega arith))))
+    ∙ rw (colours-set (cell l 7) 256 e r g b h)
 
 pub set-colour : (l : List ℕ) (e r g b : ℕ) → length l ≡ whole → e < 256 →
-    view (set (set (set l (1536 + 3 * e) r) (1536 + 3 * e + 1) g) (1536 + 3 * e + 2) b) ≡ withNamed (view l) (withPalette (named (view l)) (set (view l .palette) e (rgb r g b)))
+    view (set (set (set l (1792 + 3 * e) r) (1792 + 3 * e + 1) g) (1792 + 3 * e + 2) b) ≡ withNamed (view l) (withPalette (named (view l)) (set (view l .palette) e (rgb r g b)))
 set-colour l e r g b n h =
-    let x : 1536 + 3 * e + 1 ≡ 1536 + (3 * e + 1) = omega arith in
-    let y : 1536 + 3 * e + 2 ≡ 1536 + (3 * e + 2) = omega arith in
+    let x : 1792 + 3 * e + 1 ≡ 1792 + (3 * e + 1) = omega arith in
+    let y : 1792 + 3 * e + 2 ≡ 1792 + (3 * e + 2) = omega arith in
     rw (x, y) (set-colour₁ l e r g b n h)
 
 pub get-colour : (l : List ℕ) (e : ℕ) → e < 256 →
-    entry (named (view l)) e ≡ rgb (getD l (1536 + 3 * e) 0) (getD l (1536 + (3 * e + 1)) 0) (getD l (1536 + (3 * e + 2)) 0)
+    entry (named (view l)) e ≡ rgb (getD l (1792 + 3 * e) 0) (getD l (1792 + (3 * e + 1)) 0) (getD l (1792 + (3 * e + 2)) 0)
 unfolding view cell
 get-colour l e h =
-    rows-at (colourAt (cell l 6)) 256 e (rgb 0 0 0) h
+    rows-at (colourAt (cell l 7)) 256 e (rgb 0 0 0) h
     ∙ rw (lt-ltb (3 * e) 768 (omega arith), lt-ltb (3 * e + 1) 768 (omega arith), lt-ltb (3 * e + 2) 768 (omega arith))
 
--- a single byte: MSR, PALMASK, the indexes, the palette's index, position and held bytes, and the byte of PALSTATE
+-- a single byte: MSR, PALMASK, the indexes, the palette's index, position and held bytes, and the byte of flags
 abbrev pub single : Chip → ℕ → ℕ → Chip
 single c k v =
     join
@@ -171,8 +173,10 @@ single c k v =
       xr = c .xr;
       fr = c .fr;
       mr = c .mr;
+      ar = c .ar;
       msr = cond (eqb 0 k) v (c .msr);
       palmask = cond (eqb 1 k) v (c .palmask);
+      picture = cond (eqb 13 k) (eqb (v / 4 % 2) 1) (c .picture);
       palette = c .palette;
     })
     (record {
@@ -182,19 +186,27 @@ single c k v =
       xr = cond (eqb 5 k) v (c .indexes .xr);
       fr = cond (eqb 6 k) v (c .indexes .fr);
       mr = cond (eqb 7 k) v (c .indexes .mr);
+      ar = cond (eqb 8 k) v (c .indexes .ar);
+      turn = cond (eqb 13 k) (eqb (v / 2 % 2) 1) (c .indexes .turn);
     })
     (record {
-      index = cond (eqb 8 k) v (c .loading .index);
-      position = cond (eqb 9 k) v (c .loading .position);
-      red = cond (eqb 10 k) v (c .loading .red);
-      green = cond (eqb 11 k) v (c .loading .green);
-      reading = cond (eqb 12 k) (eqb (v % 2) 1) (c .loading .reading);
+      index = cond (eqb 9 k) v (c .loading .index);
+      position = cond (eqb 10 k) v (c .loading .position);
+      red = cond (eqb 11 k) v (c .loading .red);
+      green = cond (eqb 12 k) v (c .loading .green);
+      reading = cond (eqb 13 k) (eqb (v % 2) 1) (c .loading .reading);
     })
 
-cond-odd : (b : Bool) (x y : ℕ) → eqb (cond b x y % 2) 1 ≡ cond b (eqb (x % 2) 1) (eqb (y % 2) 1)
-cond-odd true x y = refl
-cond-odd false x y = refl
+cond-of : (f : ℕ → Bool) (b : Bool) (x y : ℕ) → f (cond b x y) ≡ cond b (f x) (f y)
+cond-of f true x y = refl
+cond-of f false x y = refl
 
-pub set-single : (l : List ℕ) (k v : ℕ) → length l ≡ whole → k < 13 → view (set l (2304 + k) v) ≡ single (view l) k v
+pub set-single : (l : List ℕ) (k v : ℕ) → length l ≡ whole → k < 14 → view (set l (2560 + k) v) ≡ single (view l) k v
 unfolding view
-set-single l k v n h = view-set l 7 k v h (omega arith) ∙ rw (cond-odd (eqb 12 k) v (cell l 7 12))
+set-single l k v n h =
+    view-set l 8 k v h (omega arith)
+    ∙ rw (
+      cond-of (λ x. eqb (x % 2) 1) (eqb 13 k) v (cell l 8 13),
+      cond-of (λ x. eqb (x / 2 % 2) 1) (eqb 13 k) v (cell l 8 13),
+      cond-of (λ x. eqb (x / 4 % 2) 1) (eqb 13 k) v (cell l 8 13),
+    )

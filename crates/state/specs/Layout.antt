@@ -1,8 +1,10 @@
--- The chip on lent bytes: which byte of a list is which part of the state. Document 01, "Ports" (the chip state).
--- Regions follow one another: 0 to 5 are the tables of CR, SR, GR, XR, FR and MR, 6 is the palette with three bytes an entry, and 7
--- has the single bytes: MSR, PALMASK, the six indexes, the palette's index, its position, the bytes held at red and at green,
--- and last a byte whose lowest bit says whether the read index was written last (PALSTATE).
--- Any list of `whole` bytes is a state. The upper seven bits of the last byte are no part of the chip: they are spare, and stay.
+-- The chip on lent bytes: which byte of a list is which part of the state. Document 01, "Ports" (the chip state); document 02, P1, for
+-- the attribute registers.
+-- Regions follow one another: 0 to 6 are the tables of CR, SR, GR, XR, FR, MR and AR, 7 is the palette with three bytes an entry, and 8
+-- has the single bytes: MSR, PALMASK, the seven indexes in the order of the tables, the palette's index, its position, the bytes held at
+-- red and at green, and last a byte of flags: bit 0 says that the read index was written last (PALSTATE), bit 1 that data comes
+-- next at 3C0h, and bit 2 is bit 5 of the attribute index, the picture.
+-- Any list of `whole` bytes is a state. The upper five bits of the last byte are no part of the chip: they are spare, and stay.
 use Prim.Native.Nat.{ℕ, suc, zero, _+_, _*_, _/_, _%_}
 use mathlib.Core.Path.{_≡_}
 use mathlib.Core.Bool.{cond}
@@ -10,14 +12,14 @@ use mathlib.Core.List.{List, [], _∷_}
 use lib.Dec.{eqb, ltb}
 use lib.ListN.{getD, length}
 use Rattle.registers.specs.declared.Group.{Group}
-use Rattle.registers.specs.declared.Group.the-variants.{Cr, Sr, Gr, Xr, Fr, Mr, Msr, Palmask}
+use Rattle.registers.specs.declared.Group.the-variants.{Cr, Sr, Gr, Xr, Fr, Mr, Msr, Palmask, Ar}
 use Rattle.chip.specs.State.{join}
 use Rattle.chip.specs.Palette.{rgb}
 use Rattle.chip.specs.declared.Chip.{Chip}
 
 -- the bytes of a region, and where it starts
 abbrev pub size : ℕ → ℕ
-size q = cond (ltb q 6) 256 (cond (eqb q 6) 768 (cond (eqb q 7) 13 0))
+size q = cond (ltb q 7) 256 (cond (eqb q 7) 768 (cond (eqb q 8) 14 0))
 
 abbrev pub start : ℕ → ℕ
 start zero = 0
@@ -25,7 +27,7 @@ start (suc q) = start q + size q
 
 -- the bytes of a state; that the regions fill them is the law `regions-fill`
 abbrev pub whole : ℕ
-whole = 2317
+whole = 2574
 
 -- byte i of region q; 0 past the region's end
 unfoldable pub cell : List ℕ → ℕ → ℕ → ℕ
@@ -47,12 +49,23 @@ chipOf s =
       xr = rows (s 3) 256;
       fr = rows (s 4) 256;
       mr = rows (s 5) 256;
-      msr = s 7 0;
-      palmask = s 7 1;
-      palette = rows (λ e. rgb (s 6 (3 * e)) (s 6 (3 * e + 1)) (s 6 (3 * e + 2))) 256;
+      ar = rows (s 6) 256;
+      msr = s 8 0;
+      palmask = s 8 1;
+      picture = eqb (s 8 13 / 4 % 2) 1;
+      palette = rows (λ e. rgb (s 7 (3 * e)) (s 7 (3 * e + 1)) (s 7 (3 * e + 2))) 256;
     })
-    (record { cr = s 7 2; sr = s 7 3; gr = s 7 4; xr = s 7 5; fr = s 7 6; mr = s 7 7 })
-    (record { index = s 7 8; position = s 7 9; red = s 7 10; green = s 7 11; reading = eqb (s 7 12 % 2) 1 })
+    (record {
+      cr = s 8 2;
+      sr = s 8 3;
+      gr = s 8 4;
+      xr = s 8 5;
+      fr = s 8 6;
+      mr = s 8 7;
+      ar = s 8 8;
+      turn = eqb (s 8 13 / 2 % 2) 1;
+    })
+    (record { index = s 8 9; position = s 8 10; red = s 8 11; green = s 8 12; reading = eqb (s 8 13 % 2) 1 })
 
 -- the chip that bytes hold
 unfoldable pub view : List ℕ → Chip
@@ -60,7 +73,7 @@ view l = chipOf (cell l)
 
 -- the bits that are no part of the chip
 unfoldable pub spare : List ℕ → ℕ
-spare l = getD l 2316 0 / 2
+spare l = getD l 2573 0 / 8
 
 -- bytes of the right length that hold a chip, with these spare bits. They are the only ones: law `holds-decides`
 pub record Holds (l : List ℕ) (c : Chip) (bits : ℕ) : Type 0 where
@@ -76,8 +89,9 @@ regionOf Gr = 2
 regionOf Xr = 3
 regionOf Fr = 4
 regionOf Mr = 5
-regionOf Msr = 7
-regionOf Palmask = 7
+regionOf Msr = 8
+regionOf Palmask = 8
+regionOf Ar = 6
 
 abbrev pub slotOf : Group → ℕ → ℕ
 slotOf Cr i = i
@@ -88,6 +102,7 @@ slotOf Fr i = i
 slotOf Mr i = i
 slotOf Msr i = 0
 slotOf Palmask i = 1
+slotOf Ar i = i
 
 unfoldable pub placeOf : Group → ℕ → ℕ
 placeOf g i = start (regionOf g) + slotOf g i

@@ -1,5 +1,6 @@
-// Port reads and writes on lent bytes, in place. Document 01, "Ports" and numbers 0, 1 and 2. The text is that
-// of crate `chip`'s methods, each callee working on the bytes. A refused access changes no byte.
+// Port reads and writes on lent bytes, in place. Document 01, "Ports" and numbers 0, 1 and 2, and document 02, P1,
+// for the attribute registers. The text is that of crate `chip`'s methods, each callee working on the bytes. A
+// refused access changes no byte.
 ghost use mathlib.Core.Path.{_≡_};
 ghost use Prim.Native.Nat.{_/_, _%_};
 ghost use lib.ListN.{length};
@@ -9,6 +10,7 @@ ghost use Rattle.state.specs.Layout.{whole, view, spare, Holds};
 ghost use Rattle.state.specs.Accesses.{Left, writeAnswer, readAnswer, WroteIn, ReadIn};
 ghost use Rattle.state.specs.Numbers.{answerOf, writeNumber, readWord};
 use crate::aim;
+use crate::attribute_index;
 use crate::get;
 use crate::is_colour;
 use crate::is_open;
@@ -16,14 +18,16 @@ use crate::load;
 use crate::paldata;
 use crate::palstate;
 use crate::put;
+use crate::set_turn;
 use crate::step;
+use crate::write_attribute;
 use chip::access::Answer;
 use ports::Target;
 use ports::leads_to;
 use registers::Group;
 
 // How many bytes a state has.
-pub const STATE: usize = 2317;
+pub const STATE: usize = 2574;
 
 // What a port write answers.
 pub enum Written {
@@ -62,20 +66,21 @@ fn answer_of(n: u8) -> Answer
     }
 }
 
-// A group's index; MSR and PALMASK have none, and stand at 0.
+// A group's index; MSR and PALMASK have none, and stand at 0. Of the attribute index these are the low five bits.
 fn index(state: &[u8], g: Group) -> u8
     requires { ⌜ length (now state) ≡ whole ⌝ }
     ensures { λ r. ⌜ r ≡ indexOf g (view (now (state .entry)) .indexes) ⌝ }
 {
     match g {
-        Group::Cr => state[2306],
-        Group::Sr => state[2307],
-        Group::Gr => state[2308],
-        Group::Xr => state[2309],
-        Group::Fr => state[2310],
-        Group::Mr => state[2311],
+        Group::Cr => state[2562],
+        Group::Sr => state[2563],
+        Group::Gr => state[2564],
+        Group::Xr => state[2565],
+        Group::Fr => state[2566],
+        Group::Mr => state[2567],
         Group::Msr => 0x00,
         Group::Palmask => 0x00,
+        Group::Ar => state[2568] % 32,
     }
 }
 
@@ -85,14 +90,15 @@ fn set_index(state: &mut [u8], g: Group, v: u8)
     ensures { λ _. ⌜ Holds (now (state .exit)) (withIndexes (view (now (state .entry))) (withIndex g (view (now (state .entry)) .indexes) v)) (spare (now (state .entry))) ⌝ }
 {
     match g {
-        Group::Cr => state[2306] = v,
-        Group::Sr => state[2307] = v,
-        Group::Gr => state[2308] = v,
-        Group::Xr => state[2309] = v,
-        Group::Fr => state[2310] = v,
-        Group::Mr => state[2311] = v,
+        Group::Cr => state[2562] = v,
+        Group::Sr => state[2563] = v,
+        Group::Gr => state[2564] = v,
+        Group::Xr => state[2565] = v,
+        Group::Fr => state[2566] = v,
+        Group::Mr => state[2567] = v,
         Group::Msr => {}
         Group::Palmask => {}
+        Group::Ar => state[2568] = v,
     }
 }
 
@@ -126,6 +132,11 @@ fn write_in(state: &mut [u8], port: u16, v: u8) -> u8
             load(state, v);
             DONE
         }
+        Target::Attribute => {
+            write_attribute(state, v);
+            DONE
+        }
+        Target::Status => DONE,
         Target::NotPicked => DONE,
         Target::NotListed => UNLISTED,
     }
@@ -153,11 +164,16 @@ fn read_in(state: &mut [u8], port: u16) -> u16
             done(get(state, g, i))
         }
         Target::ReadIndex => done(palstate(state)),
-        Target::WriteIndex => done(state[2312]),
+        Target::WriteIndex => done(state[2569]),
         Target::Paldata => {
             let v = paldata(state);
             step(state);
             done(v)
+        }
+        Target::Attribute => done(attribute_index(state)),
+        Target::Status => {
+            set_turn(state, false);
+            done(0x00)
         }
         Target::NotPicked => done(0xFF),
         Target::NotListed => UNLISTED_WORD,

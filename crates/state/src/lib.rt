@@ -1,16 +1,19 @@
-// The chip on bytes that a caller lends: any 2,317 bytes are a state (specs/Layout says which byte is what),
-// and every access works on them in place. Document 01, "Ports" (the state) and "Registers" and "Palette".
-// Here are the registers by name, and then the palette: an entry is three bytes from 1536 on; 2312 is the
-// palette's index, 2313 the position, 2314 and 2315 are the bytes held at red and at green, and the lowest bit
-// of 2316 says that the read index was written last. The indexes and the port accesses are in access.rt, a pixel's colour in pixel.rt.
+// The chip on bytes that a caller lends: any 2,574 bytes are a state (specs/Layout says which byte is what),
+// and every access works on them in place. Document 01, "Ports" (the state) and "Registers" and "Palette";
+// document 02, P1, for the attribute registers. Here are the registers by name; then the palette: an entry is three
+// bytes from 1792 on, 2569 is the palette's index, 2570 the position, 2571 and 2572 are the bytes held at red and at
+// green; then port 3C0h: 2568 is the attribute index. The flags are bits of 2573: bit 0 says that the read index
+// was written last, bit 1 that data comes next at 3C0h, bit 2 that there is a picture. The other indexes and the
+// port accesses are in access.rt, a pixel's colour in pixel.rt.
 // What is public takes bytes of any length, and refuses all but a state's.
 ghost use mathlib.Core.Path.{_≡_};
-ghost use Prim.Native.Nat.{_+_, _*_, _/_, _<_};
+ghost use Prim.Native.Nat.{_+_, _*_, _/_, _%_, _<_};
 ghost use mathlib.Core.Bool.{cond};
 ghost use lib.ListN.{length};
-ghost use Rattle.chip.specs.State.{named, join, withNamed, withLoading};
+ghost use Rattle.chip.specs.State.{named, join, withNamed, withIndexes, withLoading, withTurn};
 ghost use Rattle.chip.specs.Names.{register, locked as lockedOf, received, portsOpen, colour as colourOf, eightBit};
 ghost use Rattle.chip.specs.Palette.{byMode, coloured, aimed, held, moved, loaded, palstate as palstateOf, paldata as paldataOf};
+ghost use Rattle.chip.specs.Attribute.{attributeIndex, attributeAimed, attributeSet, attributeWritten};
 ghost use Rattle.state.specs.Layout.{start, whole, view, spare, regionOf, slotOf, placeOf, thirdOf, Holds};
 use masks::writable;
 use registers::Group;
@@ -32,8 +35,9 @@ fn base(g: Group) -> usize
         Group::Xr => 768,
         Group::Fr => 1024,
         Group::Mr => 1280,
-        Group::Msr => 2304,
-        Group::Palmask => 2305,
+        Group::Msr => 2560,
+        Group::Palmask => 2561,
+        Group::Ar => 1536,
     }
 }
 
@@ -51,6 +55,7 @@ fn offset(g: Group, i: u8) -> usize
         Group::Mr => at,
         Group::Msr => 0,
         Group::Palmask => 0,
+        Group::Ar => at,
     }
 }
 
@@ -76,7 +81,7 @@ fn locked(state: &[u8], g: Group) -> bool
     requires { ⌜ length (now state) ≡ whole ⌝ }
     ensures { λ r. ⌜ r ≡ lockedOf g (named (view (now (state .entry)))) ⌝ }
 {
-    locked_by(g, get(state, Group::Cr, 0x11))
+    locked_by(g, get(state, Group::Cr, 0x11), state[2573] / 4 % 2 == 1)
 }
 
 // A register receives a byte, by name.
@@ -121,11 +126,33 @@ fn by_mode(eight: bool, v: u8) -> u8
     if eight { v } else { v % 64 }
 }
 
-// A byte with its lowest bit replaced.
-fn marked(b: u8, bit: bool) -> u8
+// The flags with bit 0 replaced.
+fn with_reading(b: u8, bit: bool) -> u8
     ensures { λ r. ⌜ r ≡ b / 2 * 2 + cond bit 1 0 ⌝ }
 {
     if bit { b / 2 * 2 + 1 } else { b / 2 * 2 }
+}
+
+// The flags with bit 1 replaced.
+fn with_turn(b: u8, bit: bool) -> u8
+    ensures { λ r. ⌜ r ≡ b / 4 * 4 + b % 2 + 2 * cond bit 1 0 ⌝ }
+{
+    if bit {
+        b / 4 * 4 + b % 2 + 2
+    } else {
+        b / 4 * 4 + b % 2
+    }
+}
+
+// The flags with bit 2 replaced.
+fn with_picture(b: u8, bit: bool) -> u8
+    ensures { λ r. ⌜ r ≡ b / 8 * 8 + b % 4 + 4 * cond bit 1 0 ⌝ }
+{
+    if bit {
+        b / 8 * 8 + b % 4 + 4
+    } else {
+        b / 8 * 8 + b % 4
+    }
 }
 
 // Which byte of an entry a position is at.
@@ -143,9 +170,9 @@ fn third(position: u8) -> usize
 
 // Where a component of an entry is.
 fn colour_place(e: u8, position: u8) -> usize
-    ensures { λ r. ⌜ (r ≡ 1536 + 3 * e + thirdOf position) × (r < whole) ⌝ }
+    ensures { λ r. ⌜ (r ≡ 1792 + 3 * e + thirdOf position) × (r < whole) ⌝ }
 {
-    1536 + 3 * (e as usize) + third(position)
+    1792 + 3 * (e as usize) + third(position)
 }
 
 // Either index is written.
@@ -153,10 +180,10 @@ fn aim(state: &mut [u8], v: u8, reading: bool)
     requires { ⌜ length (now state) ≡ whole ⌝ }
     ensures { λ _. ⌜ Holds (now (state .exit)) (withLoading (view (now (state .entry))) (aimed (view (now (state .entry)) .loading) v reading)) (spare (now (state .entry))) ⌝ }
 {
-    state[2312] = v;
-    state[2313] = 0;
-    let old = state[2316];
-    state[2316] = marked(old, reading);
+    state[2569] = v;
+    state[2570] = 0;
+    let old = state[2573];
+    state[2573] = with_reading(old, reading);
 }
 
 // The position moves on, and after blue the index.
@@ -164,15 +191,15 @@ fn step(state: &mut [u8])
     requires { ⌜ length (now state) ≡ whole ⌝ }
     ensures { λ _. ⌜ Holds (now (state .exit)) (withLoading (view (now (state .entry))) (moved (view (now (state .entry)) .loading))) (spare (now (state .entry))) ⌝ }
 {
-    let p = state[2313];
+    let p = state[2570];
     if p == 2 {
-        let i = state[2312];
-        state[2312] = std::num::wrapping_add_u8(i, 1);
-        state[2313] = 0;
+        let i = state[2569];
+        state[2569] = std::num::wrapping_add_u8(i, 1);
+        state[2570] = 0;
     } else if p == 1 {
-        state[2313] = 2;
+        state[2570] = 2;
     } else {
-        state[2313] = 1;
+        state[2570] = 1;
     }
 }
 
@@ -182,7 +209,7 @@ fn put_colour(state: &mut [u8], e: u8, red: u8, green: u8, blue: u8)
     ensures { λ _. ⌜ Holds (now (state .exit)) (withNamed (view (now (state .entry))) (coloured (named (view (now (state .entry)))) e red green blue)) (spare (now (state .entry))) ⌝ }
 {
     let eight = is_eight_bit(state);
-    let at = 1536 + 3 * (e as usize);
+    let at = 1792 + 3 * (e as usize);
     state[at] = by_mode(eight, red);
     state[at + 1] = by_mode(eight, green);
     state[at + 2] = by_mode(eight, blue);
@@ -193,16 +220,16 @@ fn hold(state: &mut [u8], v: u8)
     requires { ⌜ length (now state) ≡ whole ⌝ }
     ensures { λ _. ⌜ Holds (now (state .exit)) (join (loaded (named (view (now (state .entry)))) (view (now (state .entry)) .loading) v) (view (now (state .entry)) .indexes) (held (view (now (state .entry)) .loading) v)) (spare (now (state .entry))) ⌝ }
 {
-    let p = state[2313];
+    let p = state[2570];
     if p == 2 {
-        let e = state[2312];
-        let red = state[2314];
-        let green = state[2315];
+        let e = state[2569];
+        let red = state[2571];
+        let green = state[2572];
         put_colour(state, e, red, green, v);
     } else if p == 1 {
-        state[2315] = v;
+        state[2572] = v;
     } else {
-        state[2314] = v;
+        state[2571] = v;
     }
 }
 
@@ -220,7 +247,7 @@ fn palstate(state: &[u8]) -> u8
     requires { ⌜ length (now state) ≡ whole ⌝ }
     ensures { λ r. ⌜ r ≡ palstateOf (view (now (state .entry)) .loading) ⌝ }
 {
-    if state[2316] % 2 == 1 { 0x03 } else { 0x00 }
+    if state[2573] % 2 == 1 { 0x03 } else { 0x00 }
 }
 
 // What PALDATA reads: the component at the position, by the mode of this moment.
@@ -229,6 +256,61 @@ fn paldata(state: &[u8]) -> u8
     ensures { λ r. ⌜ r ≡ paldataOf (named (view (now (state .entry)))) (view (now (state .entry)) .loading) ⌝ }
 {
     let eight = is_eight_bit(state);
-    let at = colour_place(state[2312], state[2313]);
+    let at = colour_place(state[2569], state[2570]);
     by_mode(eight, state[at])
+}
+
+// The attribute index as 3C0h reads it: the low five bits, and bit 5, the picture.
+fn attribute_index(state: &[u8]) -> u8
+    requires { ⌜ length (now state) ≡ whole ⌝ }
+    ensures { λ r. ⌜ r ≡ attributeIndex (view (now (state .entry))) ⌝ }
+{
+    let low = state[2568] % 32;
+    if state[2573] / 4 % 2 == 1 {
+        low + 0x20
+    } else {
+        low
+    }
+}
+
+// The turn of 3C0h is set: at data, or at the index.
+fn set_turn(state: &mut [u8], turn: bool)
+    requires { ⌜ length (now state) ≡ whole ⌝ }
+    ensures { λ _. ⌜ Holds (now (state .exit)) (withIndexes (view (now (state .entry))) (withTurn (view (now (state .entry)) .indexes) turn)) (spare (now (state .entry))) ⌝ }
+{
+    let old = state[2573];
+    state[2573] = with_turn(old, turn);
+}
+
+// The attribute index is written: data comes next.
+fn aim_attribute(state: &mut [u8], v: u8)
+    requires { ⌜ length (now state) ≡ whole ⌝ }
+    ensures { λ _. ⌜ Holds (now (state .exit)) (attributeAimed (view (now (state .entry))) v) (spare (now (state .entry))) ⌝ }
+{
+    state[2568] = v % 32;
+    let old = state[2573];
+    state[2573] = with_picture(old, v / 32 % 2 == 1);
+    set_turn(state, true);
+}
+
+// The register at the attribute index receives a byte: an index comes next.
+fn set_attribute(state: &mut [u8], v: u8)
+    requires { ⌜ length (now state) ≡ whole ⌝ }
+    ensures { λ _. ⌜ Holds (now (state .exit)) (attributeSet (view (now (state .entry))) v) (spare (now (state .entry))) ⌝ }
+{
+    let i = state[2568] % 32;
+    put(state, Group::Ar, i, v);
+    set_turn(state, false);
+}
+
+// A byte is written to 3C0h.
+fn write_attribute(state: &mut [u8], v: u8)
+    requires { ⌜ length (now state) ≡ whole ⌝ }
+    ensures { λ _. ⌜ Holds (now (state .exit)) (attributeWritten (view (now (state .entry))) v) (spare (now (state .entry))) ⌝ }
+{
+    if state[2573] / 2 % 2 == 1 {
+        set_attribute(state, v);
+    } else {
+        aim_attribute(state, v);
+    }
 }

@@ -30,7 +30,7 @@ fn entry(state: &[u8], e: u8) -> Rgb
     requires { ⌜ length (now state) ≡ whole ⌝ }
     ensures { λ r. ⌜ r ≡ entryOf (named (view (now (state .entry)))) e ⌝ }
 {
-    let at = 1536 + 3 * (e as usize);
+    let at = 1792 + 3 * (e as usize);
     let red = state[at];
     let green = state[at + 1];
     let blue = state[at + 2];

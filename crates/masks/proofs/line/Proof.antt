@@ -1,21 +1,22 @@
--- The match is the table: each line is computed from the definition, and those of MSR are alike.
+-- The match is the table: each line is computed from the definition, and those of PALMASK are alike.
 use native.Mathlib.Omega.{arith}
 use Prim.Native.Nat.{_/_, _≤_}
 use mathlib.Core.Path.{_≡_}
-use Rattle.registers.specs.Groups.{groupAt, rowOf}
+use Rattle.registers.specs.Groups.{tableAt, rowOf}
 use Rattle.registers.specs.CrtController.{CR}
 use Rattle.registers.specs.Sequencer.{SR}
 use Rattle.registers.specs.Graphics.{GR}
 use Rattle.registers.specs.Extension.{XR}
 use Rattle.registers.specs.FlatPanel.{FR}
 use Rattle.registers.specs.Multimedia.{MR}
+use Rattle.registers.specs.Attribute.{AR}
 use Rattle.masks.specs.Table.{packed, lineOf}
 use Rattle.masks.proofs.LineLaws.{passed}
 use Rattle.masks.proofs.line.Statement.{statement}
 use Rattle.masks.proofs.line.Tie as tie
 
 pub line-spec : {M : Type 1} → statement M
-unfolding lineOf packed groupAt rowOf CR SR GR XR FR MR
+unfolding lineOf packed tableAt rowOf CR SR GR XR FR MR AR
 line-spec =
     tie.close
     (tie.spec
@@ -211,4 +212,36 @@ line-spec =
     (λ c. rw (c .match .keys190))
     (λ c. rw (c .match .keys191))
     (λ c. rw (c .match .keys192))
-    (λ c. let past : 0xC0 ≤ c .before .args .k = passed _ 0xC0 (c .match .rest) in let e : c .before .args .k / 32 ≡ 6 = omega arith in rw e))
+    (λ c. rw (c .match .keys193))
+    (λ c. rw (c .match .keys194))
+    (λ c. rw (c .match .keys195))
+    (λ c. rw (c .match .keys196))
+    (λ c. rw (c .match .keys197))
+    (λ c. rw (c .match .keys198))
+    (λ c. rw (c .match .keys199))
+    (λ c. rw (c .match .keys200))
+    (λ c. rw (c .match .keys201))
+    (λ c. rw (c .match .keys202))
+    (λ c. rw (c .match .keys203))
+    (λ c. rw (c .match .keys204))
+    (λ c. rw (c .match .keys205))
+    (λ c. rw (c .match .keys206))
+    (λ c. rw (c .match .keys207))
+    (λ c. rw (c .match .keys208))
+    (λ c. rw (c .match .keys209))
+    (λ c. rw (c .match .keys210))
+    (λ c. rw (c .match .keys211))
+    (λ c. rw (c .match .keys212))
+    (λ c. rw (c .match .keys213))
+    (λ c. rw (c .match .keys214))
+    (λ c. rw (c .match .keys215))
+    (λ c. rw (c .match .keys216))
+    (λ c. rw (c .match .keys217))
+    (λ c. rw (c .match .keys218))
+    (λ c. rw (c .match .keys219))
+    (λ c. rw (c .match .keys220))
+    (λ c. rw (c .match .keys221))
+    (λ c. rw (c .match .keys222))
+    (λ c. rw (c .match .keys223))
+    (λ c. rw (c .match .keys224))
+    (λ c. let past : 0xE0 ≤ c .before .args .k = passed _ 0xE0 (c .match .rest) in let e : c .before .args .k / 32 ≡ 7 = omega arith in rw e))

@@ -1,19 +1,17 @@
--- The byte of the register's line; PALMASK has none.
+-- The byte of the register's line; MSR has none.
 use mathlib.Core.Path.{sym, _∙_}
 use native.Mathlib.Omega.{arith}
 use borrow.Author.Needs.{needs}
-use Rattle.registers.specs.Groups.{groupAt, rowOf}
-use Rattle.masks.proofs.LineLaws.{by-number, in-line}
+use Rattle.masks.proofs.LineLaws.{without-lines, in-line}
 use Rattle.masks.proofs.writable.Statement.{statement}
 use Rattle.masks.proofs.writable.Tie as tie
 
 pub writable-spec : {M : Type 1} → statement M
-unfolding groupAt rowOf
 writable-spec =
     tie.close
     (tie.spec
     (λ c κs. search needs)
-    (λ c. sym (by-number (c .before .before .args .g) 7 (c .before .before .args .i) (sym (c .before .number .ensures .0) ∙ c .if1 .taken)))
+    (λ c. sym (without-lines (c .before .before .args .g) (c .before .before .args .i) (sym (c .before .table .ensures .0) ∙ c .if1 .taken)))
     (λ c. search needs)
     (λ c. search needs)
     (λ c κs. search needs)
@@ -22,4 +20,4 @@ writable-spec =
     (λ c. search needs)
     (λ c. search needs)
     (λ c. search needs)
-    (λ c. rw (c .line .ensures, c .before .before .number .ensures .0) (in-line (c .before .before .before .args .g) (c .before .before .before .args .i) (omega arith))))
+    (λ c. rw (c .line .ensures, c .before .before .table .ensures .0) (in-line (c .before .before .before .args .g) (c .before .before .before .args .i) (omega arith) (omega arith))))

@@ -13,7 +13,7 @@ fresh-spec =
     (λ c κs. search needs)
     (λ c. search needs)
     (λ c κs. search needs)
-    (λ c. rw (lt-ltb _ _ (c .before .before .if1 .taken), c .after-reset .ensures, c .before .group-at .ensures))
+    (λ c. rw (lt-ltb _ _ (c .before .before .if1 .taken), c .after-reset .ensures, c .before .table-at .ensures))
     (λ c κs. search needs)
     (λ c. rw (le-ltb _ _ (c .before .before .if1 .left), eq-eqb _ _ (c .before .if2 .taken)) (c .after-reset2 .ensures))
     (λ c κs. search needs)

@@ -15,4 +15,4 @@ aim-spec =
     (λ c κs. search needs)
     (λ c. search needs)
     (λ c. search needs)
-    (λ c. then-reading (c .before .before .before .args .reading) (then-single 9 0 (then-single 8 (c .before .before .before .args .v) (as-it-is (c .before .before .before .pre)) (omega arith)) (omega arith)) (c .marked .ensures)))
+    (λ c. then-reading (c .before .before .before .args .reading) (then-single 10 0 (then-single 9 (c .before .before .before .args .v) (as-it-is (c .before .before .before .pre)) (omega arith)) (omega arith)) (c .with-reading .ensures)))

@@ -23,6 +23,6 @@ hold-spec =
     (λ c. search needs)
     (λ c. now-holds (c .before .before .put-colour .ensures) (rw (c .before .before .before .before .before .before .before .if1 .taken)))
     (λ c. search needs)
-    (λ c. now-holds (then-single 11 _ (as-it-is (c .before .before .before .before .pre)) (omega arith)) (rw (c .if2 .taken)))
+    (λ c. now-holds (then-single 12 _ (as-it-is (c .before .before .before .before .pre)) (omega arith)) (rw (c .if2 .taken)))
     (λ c. search needs)
-    (λ c. now-holds (then-single 10 _ (as-it-is (c .before .before .before .before .pre)) (omega arith)) (simp (ne-eqb _ _ (c .before .if1 .left), ne-eqb _ _ (c .if2 .left)))))
+    (λ c. now-holds (then-single 11 _ (as-it-is (c .before .before .before .before .pre)) (omega arith)) (simp (ne-eqb _ _ (c .before .if1 .left), ne-eqb _ _ (c .if2 .left)))))

@@ -1,5 +1,6 @@
--- By the byte of CR11.
+-- By the byte of CR11 and the picture.
 use Rattle.chip.specs.Names.{locked}
+use Rattle.state.proofs.Holding.{picture-bit}
 use borrow.Author.Needs.{needs}
 use Rattle.state.proofs.locked.Statement.{statement}
 use Rattle.state.proofs.locked.Tie as tie
@@ -10,5 +11,6 @@ locked-spec =
     tie.close
     (tie.spec
     (λ c κs. search needs)
+    (λ c. search needs)
     (λ c κs. search needs)
-    (λ c. rw (c .locked-by .ensures, c .before .get .ensures)))
+    (λ c. rw (c .locked-by .ensures, c .before .before .get .ensures, picture-bit _)))

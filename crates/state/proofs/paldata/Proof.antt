@@ -15,4 +15,4 @@ paldata-spec =
     (λ c κs. search needs)
     (λ c. search needs)
     (λ c κs. search needs)
-    (λ c. rw (shown-at (c .before .before .before .before .before .before .before .args .state .now) (omega (arith, c .before .before .before .before .shared-slice-known2 .given 2312)), c .by-mode .ensures, c .before .before .before .before .before .is-eight-bit .ensures, c .before .before .colour-place .ensures .0)))
+    (λ c. rw (shown-at (c .before .before .before .before .before .before .before .args .state .now) (omega (arith, c .before .before .before .before .shared-slice-known2 .given 2569)), c .by-mode .ensures, c .before .before .before .before .before .is-eight-bit .ensures, c .before .before .colour-place .ensures .0)))

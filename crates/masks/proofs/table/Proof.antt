@@ -1,13 +1,14 @@
 -- By the group.
 use native.Mathlib.Omega.{arith}
 use borrow.Author.Needs.{needs}
-use Rattle.masks.proofs.number.Statement.{statement}
-use Rattle.masks.proofs.number.Tie as tie
+use Rattle.masks.proofs.table.Statement.{statement}
+use Rattle.masks.proofs.table.Tie as tie
 
-pub number-spec : {M : Type 1} → statement M
-number-spec =
+pub table-spec : {M : Type 1} → statement M
+table-spec =
     tie.close
     (tie.spec
+    (λ c. search needs)
     (λ c. search needs)
     (λ c. search needs)
     (λ c. search needs)
@@ -23,4 +24,5 @@ number-spec =
     (λ c. (rw (c .enum-told5 .given .1), omega arith))
     (λ c. (rw (c .enum-told6 .given .1), omega arith))
     (λ c. (rw (c .enum-told7 .given .1), omega arith))
-    (λ c. (rw (c .enum-told8 .given .1), omega arith)))
+    (λ c. (rw (c .enum-told8 .given .1), omega arith))
+    (λ c. (rw (c .enum-told9 .given .1), omega arith)))

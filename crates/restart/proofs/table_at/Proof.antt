@@ -1,12 +1,12 @@
 -- By seven tests.
 use borrow.Author.Tests.{eq-eqb, ne-eqb}
-use Rattle.registers.specs.Groups.{groupAt}
-use Rattle.restart.proofs.group_at.Statement.{statement}
-use Rattle.restart.proofs.group_at.Tie as tie
+use Rattle.registers.specs.Groups.{tableAt}
+use Rattle.restart.proofs.table_at.Statement.{statement}
+use Rattle.restart.proofs.table_at.Tie as tie
 
-pub group-at-spec : {M : Type 1} → statement M
-unfolding groupAt
-group-at-spec =
+pub table-at-spec : {M : Type 1} → statement M
+unfolding tableAt
+table-at-spec =
     tie.close
     (tie.spec
     (λ c. rw (eq-eqb _ _ (c .if1 .taken)))

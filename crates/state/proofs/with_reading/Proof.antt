@@ -2,11 +2,11 @@
 use mathlib.Core.Path.{sym}
 use native.Mathlib.Nat.{add-zero}
 use borrow.Author.Needs.{needs}
-use Rattle.state.proofs.marked.Statement.{statement}
-use Rattle.state.proofs.marked.Tie as tie
+use Rattle.state.proofs.with_reading.Statement.{statement}
+use Rattle.state.proofs.with_reading.Tie as tie
 
-pub marked-spec : {M : Type 1} → statement M
-marked-spec =
+pub with-reading-spec : {M : Type 1} → statement M
+with-reading-spec =
     tie.close
     (tie.spec
     (λ c. search needs)

@@ -1,0 +1,18 @@
+-- The register, then the turn.
+use mathlib.Core.Bool.{false}
+use Rattle.state.specs.Layout.{view, cell}
+use Rattle.state.proofs.Holding.{turned}
+use borrow.Author.Needs.{needs}
+use Rattle.state.proofs.set_attribute.Statement.{statement}
+use Rattle.state.proofs.set_attribute.Tie as tie
+
+pub set-attribute-spec : {M : Type 1} → statement M
+unfolding view cell
+set-attribute-spec =
+    tie.close
+    (tie.spec
+    (λ c. search needs)
+    (λ c κs. search needs)
+    (λ c κs. search needs)
+    (λ c. search needs)
+    (λ c. turned false (c .before .before .before .before .before .before .put .ensures) (c .before .before .set-turn .ensures)))
