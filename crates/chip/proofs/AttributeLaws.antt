@@ -9,7 +9,7 @@ use mathlib.Core.Path.{_≡_, refl, ap, _∙_}
 use Rattle.lists.specs.Bits.{bit, isSet}
 use Rattle.registers.specs.declared.Group.the-variants.{Ar}
 use Rattle.ports.specs.Ports.{ports, target}
-use Rattle.chip.specs.State.{Named, named, join, withPicture, withTurn, indexOf, withIndex}
+use Rattle.chip.specs.State.{named, join, withPicture, withTurn, indexOf, withIndex}
 use Rattle.chip.specs.Names.{register, received, portsOpen, colour}
 use Rattle.chip.specs.Attribute.{attributeIndex, attributeAimed, attributeSet, attributeWritten, turnReturned}
 use Rattle.chip.specs.Access.{portWritten, portRead, wrote, seen}

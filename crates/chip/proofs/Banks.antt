@@ -1,6 +1,6 @@
 -- The registers of a group as one list, its bank: a table, or the one byte of MSR or PALMASK. What a register's byte is and what
 -- replacing one does, said over the bank and for every group at once; the laws of names rest on these two equations. Then that
--- storing colours leaves every bank, as the picture does, and that groups are told apart by their numbers.
+-- colours and the picture are in no bank, and that groups are told apart by their numbers.
 use Prim.Native.Nat.{ℕ, _<_}
 use native.Mathlib.Omega.{arith}
 use mathlib.Core.Bool.{Bool, true, false, cond}
@@ -12,9 +12,8 @@ use Rattle.registers.specs.Groups.{numberOf, groupAt, is, isIndexed}
 use Rattle.registers.proofs.TableLaws.{group-numbered}
 use Rattle.registers.specs.declared.Group.{Group}
 use Rattle.registers.specs.declared.Group.the-variants.{Cr, Sr, Gr, Xr, Fr, Mr, Msr, Palmask, Ar}
-use Rattle.chip.specs.State.{Named, withPicture}
+use Rattle.chip.specs.State.{Named, sameRegisters}
 use Rattle.chip.specs.Names.{register, replaced}
-use Rattle.chip.specs.Palette.{withPalette}
 use Rattle.chip.specs.declared.Rgb.{Rgb}
 
 abbrev pub bank : Group → Named → List ℕ
@@ -69,27 +68,16 @@ bank-replaced Msr g n i b = one-byte (is g Msr) (n .msr) b
 bank-replaced Palmask g n i b = one-byte (is g Palmask) (n .palmask) b
 bank-replaced Ar g n i b = refl
 
-pub bank-colours : (h : Group) (n : Named) (colours : List Rgb) → bank h (withPalette n colours) ≡ bank h n
-bank-colours Cr n colours = refl
-bank-colours Sr n colours = refl
-bank-colours Gr n colours = refl
-bank-colours Xr n colours = refl
-bank-colours Fr n colours = refl
-bank-colours Mr n colours = refl
-bank-colours Msr n colours = refl
-bank-colours Palmask n colours = refl
-bank-colours Ar n colours = refl
-
-pub bank-picture : (h : Group) (n : Named) (b : Bool) → bank h (withPicture n b) ≡ bank h n
-bank-picture Cr n b = refl
-bank-picture Sr n b = refl
-bank-picture Gr n b = refl
-bank-picture Xr n b = refl
-bank-picture Fr n b = refl
-bank-picture Mr n b = refl
-bank-picture Msr n b = refl
-bank-picture Palmask n b = refl
-bank-picture Ar n b = refl
+pub bank-same : (h : Group) (n : Named) (colours : List Rgb) (lit : Bool) → bank h (sameRegisters n colours lit) ≡ bank h n
+bank-same Cr n colours lit = refl
+bank-same Sr n colours lit = refl
+bank-same Gr n colours lit = refl
+bank-same Xr n colours lit = refl
+bank-same Fr n colours lit = refl
+bank-same Mr n colours lit = refl
+bank-same Msr n colours lit = refl
+bank-same Palmask n colours lit = refl
+bank-same Ar n colours lit = refl
 
 pub is-self : (g : Group) → is g g ≡ true
 is-self g = eq-eqb (numberOf g) (numberOf g) refl

@@ -14,10 +14,11 @@ use Rattle.registers.specs.WriteRule.{leftOpen, writableNow, written}
 use Rattle.registers.proofs.WriteLaws.{bit-written, written-byte, byte-now}
 use Rattle.registers.specs.declared.Group.{Group}
 use Rattle.registers.specs.declared.Group.the-variants.{Cr, Sr, Gr, Xr, Fr, Mr, Msr, Palmask, Ar}
-use Rattle.chip.specs.State.{Named, withPicture}
+use Rattle.chip.specs.State.{Named, sameRegisters, withPicture}
 use Rattle.chip.specs.Names.{register, replaced, locked, writableAt, received}
 use Rattle.chip.specs.Palette.{coloured}
-use Rattle.chip.proofs.Banks.{bank, place, register-bank, bank-replaced, bank-colours, bank-picture, is-self, is-same}
+use Rattle.chip.specs.declared.Rgb.{Rgb}
+use Rattle.chip.proofs.Banks.{bank, place, register-bank, bank-replaced, bank-same, is-self, is-same}
 
 -- the register has its place in the state: every index below 256 does, where tables hold 256 bytes
 abbrev pub Has : Group → Named → ℕ → Type 0
@@ -134,13 +135,14 @@ pub received-keeps-colours : (g : Group) (n : Named) (i v : ℕ) → received g 
 unfolding received
 received-keeps-colours g n i v = refl
 
--- storing a colour leaves every register
+-- other colours and another picture leave every register; so does storing a colour
+register-same : (h : Group) (n : Named) (colours : List Rgb) (lit : Bool) (i : ℕ) → register h (sameRegisters n colours lit) i ≡ register h n i
+register-same h n colours lit i =
+    register-bank h (sameRegisters n colours lit) i ∙ ap (λ (l : List ℕ). getD l (place h i) 0) (bank-same h n colours lit) ∙ sym (register-bank h n i)
+
 pub coloured-keeps-register : (h : Group) (n : Named) (e r g b i : ℕ) → register h (coloured n e r g b) i ≡ register h n i
 unfolding coloured
-coloured-keeps-register h n e r g b i =
-    register-bank h (coloured n e r g b) i ∙ ap (λ (l : List ℕ). getD l (place h i) 0) (bank-colours h n _) ∙ sym (register-bank h n i)
+coloured-keeps-register h n e r g b i = register-same h n _ (n .picture) i
 
--- so does the picture
-pub picture-keeps-register : (h : Group) (n : Named) (b : Bool) (i : ℕ) → register h (withPicture n b) i ≡ register h n i
-picture-keeps-register h n b i =
-    register-bank h (withPicture n b) i ∙ ap (λ (l : List ℕ). getD l (place h i) 0) (bank-picture h n b) ∙ sym (register-bank h n i)
+pub picture-keeps-register : (h : Group) (n : Named) (lit : Bool) (i : ℕ) → register h (withPicture n lit) i ≡ register h n i
+picture-keeps-register h n lit i = register-same h n (n .palette) lit i

@@ -15,7 +15,7 @@ use Rattle.registers.specs.declared.Group.the-variants.{Cr, Sr, Gr, Xr, Fr, Mr,
 use Rattle.ports.specs.Ports.{target}
 use Rattle.ports.specs.declared.Target.{Target}
 use Rattle.ports.specs.declared.Target.the-variants.{Index, Data, ReadIndex, WriteIndex, Paldata, Attribute, Status, NotPicked, NotListed}
-use Rattle.chip.specs.State.{Named, named, withPicture, indexOf, withIndex}
+use Rattle.chip.specs.State.{Named, named, indexOf, withIndex}
 use Rattle.chip.specs.Names.{register, received, writableAt, portsOpen, colour, eightBit}
 use Rattle.chip.specs.Palette.{rgb, byMode, entry, coloured, held, moved}
 use Rattle.chip.specs.Attribute.{attributeSet, attributeAimed}
@@ -25,7 +25,7 @@ use Rattle.chip.specs.Reach.{Reach, fresh, wrote, saw}
 use Rattle.chip.specs.declared.Chip.{Chip}
 use Rattle.chip.specs.declared.Indexes.{Indexes}
 use Rattle.chip.specs.declared.Loading.{Loading}
-use Rattle.chip.proofs.Banks.{bank, place, room, place-room, bank-replaced, bank-colours, bank-picture}
+use Rattle.chip.proofs.Banks.{bank, place, room, place-room, bank-replaced, bank-same}
 use Rattle.chip.proofs.NameLaws.{Has, received-same}
 use Rattle.chip.proofs.AccessLaws.{write-cases, state-read, write-data, named-written, read-keeps-all}
 use Rattle.chip.proofs.IndexLaws.{index-turn}
@@ -50,7 +50,7 @@ pub length-written : (h : Group) (c : Chip) (p v : ℕ) → length (bank h (name
 unfolding coloured
 length-written h c p v =
     named-written (λ n. length (bank h n) ≡ length (bank h (named c))) c v refl
-    (λ g. length-received h g (named c) (indexOf g (c .indexes)) v) (λ e r g b. ap length (bank-colours h (named c) _)) (λ b. ap length (bank-picture h (named c) b)) p
+    (λ g. length-received h g (named c) (indexOf g (c .indexes)) v) (λ e r g b. ap length (bank-same h (named c) _ (c .picture))) (λ b. ap length (bank-same h (named c) (c .palette) b)) p
 
 pub length-palette-written : (c : Chip) (p v : ℕ) → length (portWritten c p v .chip .palette) ≡ length (c .palette)
 unfolding received

@@ -3,7 +3,7 @@
 -- name a register, and bit 5 says that there is a picture, which is kept among what has a name. Bits 6 and 7 read 0.
 -- Reading input status 1 returns the turn to the index; reading 3C0h or 3C1h leaves it. XR09 does nothing here.
 use Prim.Native.Nat.{ℕ, _+_, _%_}
-use mathlib.Core.Bool.{Bool, true, false, cond}
+use mathlib.Core.Bool.{true, false, cond}
 use Rattle.lists.specs.Bits.{isSet}
 use Rattle.registers.specs.declared.Group.the-variants.{Ar}
 use Rattle.chip.specs.State.{named, join, withIndexes, withPicture, withTurn, indexOf, withIndex}

@@ -7,7 +7,7 @@ use lib.Dec.{eqb}
 use lib.ListN.{getD, set}
 use lib.Bits.{bitAnd}
 use Rattle.registers.specs.declared.Group.the-variants.{Palmask}
-use Rattle.chip.specs.State.{Named}
+use Rattle.chip.specs.State.{Named, sameRegisters}
 use Rattle.chip.specs.Names.{register, eightBit}
 use Rattle.chip.specs.declared.Rgb.{Rgb}
 use Rattle.chip.specs.declared.Loading.{Loading}
@@ -23,19 +23,7 @@ abbrev pub entry : Named → ℕ → Rgb
 entry n e = getD (n .palette) e (rgb 0 0 0)
 
 abbrev pub withPalette : Named → List Rgb → Named
-withPalette n p = record {
-  cr = n .cr;
-  sr = n .sr;
-  gr = n .gr;
-  xr = n .xr;
-  fr = n .fr;
-  mr = n .mr;
-  ar = n .ar;
-  msr = n .msr;
-  palmask = n .palmask;
-  picture = n .picture;
-  palette = p;
-}
+withPalette n colours = sameRegisters n colours (n .picture)
 
 -- an entry is stored, by the mode at that moment
 unfoldable pub coloured : Named → ℕ → ℕ → ℕ → ℕ → Named

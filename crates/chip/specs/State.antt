@@ -68,9 +68,9 @@ withIndexes c x = join (named c) x (c .loading)
 abbrev pub withLoading : Chip → Loading → Chip
 withLoading c l = join (named c) (c .indexes) l
 
--- what has a name, with bit 5 of the attribute index replaced
-abbrev pub withPicture : Named → Bool → Named
-withPicture n b = record {
+-- the same registers, with these colours and this bit 5 of the attribute index
+abbrev pub sameRegisters : Named → List Rgb → Bool → Named
+sameRegisters n colours lit = record {
   cr = n .cr;
   sr = n .sr;
   gr = n .gr;
@@ -80,9 +80,12 @@ withPicture n b = record {
   ar = n .ar;
   msr = n .msr;
   palmask = n .palmask;
-  picture = b;
-  palette = n .palette;
+  picture = lit;
+  palette = colours;
 }
+
+abbrev pub withPicture : Named → Bool → Named
+withPicture n lit = sameRegisters n (n .palette) lit
 
 -- a group's index; MSR and PALMASK have none, and stand at 0. Of the attribute index these are the low five bits
 abbrev pub indexOf : Group → Indexes → ℕ

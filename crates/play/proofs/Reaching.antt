@@ -1,7 +1,7 @@
 -- The facts of each group that the argument rests on: where its ports lead, that a selected index is the one that its data port works
 -- at, and that no write by name closes the ports. A new group adds its facts here; the argument in StepsSent goes by the way
 -- a group is reached and stays.
-use Prim.Native.Nat.{ℕ, zero, suc, _%_, _<_}
+use Prim.Native.Nat.{ℕ, zero, suc, _<_}
 use native.Mathlib.Omega.{arith}
 use mathlib.Core.Bool.{Bool, true, false}
 use mathlib.Core.Path.{_≡_, refl, ap, sym, _∙_}

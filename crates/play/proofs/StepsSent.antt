@@ -6,7 +6,6 @@ use mathlib.Core.List.{List, [], _∷_}
 use lib.Bits.{bitAnd, bitOr}
 use Rattle.lists.proofs.Tests.{and-both}
 use Rattle.registers.specs.declared.Group.{Group}
-use Rattle.registers.specs.declared.Group.the-variants.{Ar}
 use Rattle.ports.specs.Ports.{ports, target}
 use Rattle.chip.specs.State.{Named, join}
 use Rattle.chip.specs.Names.{register, received, portsOpen, colour}

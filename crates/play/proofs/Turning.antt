@@ -11,7 +11,7 @@ use lib.Bits.{bitAnd, bitOr, and-zero-r, or-zero-l, and-block, and-shifted, and-
 use Rattle.lists.specs.Bits.{isSet}
 use Rattle.registers.specs.declared.Group.the-variants.{Ar}
 use Rattle.ports.specs.Ports.{ports, target}
-use Rattle.ports.specs.declared.Target.the-variants.{Data, Attribute, Status, NotPicked}
+use Rattle.ports.specs.declared.Target.the-variants.{Data, Attribute, Status}
 use Rattle.chip.specs.State.{Named, join, withTurn, indexOf, withIndex}
 use Rattle.chip.specs.Names.{register, received, portsOpen, colour}
 use Rattle.chip.specs.Attribute.{attributeIndex, attributeAimed}
@@ -19,7 +19,7 @@ use Rattle.chip.specs.Access.{portWritten, portRead}
 use Rattle.chip.specs.declared.Indexes.{Indexes}
 use Rattle.chip.specs.declared.Loading.{Loading}
 use Rattle.commands.specs.Expansion.{turned, change}
-use Rattle.commands.specs.declared.Command.the-variants.{Out, In, Merge, OutAcc}
+use Rattle.commands.specs.declared.Command.the-variants.{Out, In, OutAcc}
 use Rattle.commands.specs.declared.CommandRead.{CommandRead}
 use Rattle.commands.specs.declared.CommandRead.the-variants.{Known}
 use Rattle.run.specs.Run.{one, done, carry}

@@ -1,6 +1,6 @@
 -- Bytes that hold a chip, and hold another after a store: each store as one step from `Holds` to `Holds`, so that a function of
 -- several stores is a chain of them. The spare bits stay, since only the byte of flags has them.
-use Prim.Native.Nat.{ℕ, suc, zero, _+_, _*_, _/_, _%_, _<_}
+use Prim.Native.Nat.{ℕ, _+_, _*_, _/_, _%_, _<_}
 use mathlib.Core.Path.{_≡_, refl, ap, _∙_}
 use mathlib.Core.Bool.{Bool, true, false, cond}
 use mathlib.Core.List.{List}

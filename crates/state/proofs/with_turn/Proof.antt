@@ -2,7 +2,6 @@
 use mathlib.Core.Path.{sym}
 use native.Mathlib.Nat.{add-zero}
 use native.Mathlib.Omega.{arith}
-use borrow.Author.Needs.{needs}
 use Rattle.state.proofs.with_turn.Statement.{statement}
 use Rattle.state.proofs.with_turn.Tie as tie
 
