@@ -137,9 +137,11 @@ setups =
     (0x01 ∷ 0xD6 ∷ 0x03 ∷ 0x80 ∷ 0x02 ∷ 0xD7 ∷ 0x03 ∷ 0x00 ∷ 0x03 ∷ 0x7F ∷ 0x80 ∷ 0x00 ∷ 0x04 ∷ 0xD7 ∷ 0x03 ∷ 0x00 ∷ [])
     -- 13. One block, SET XR60 43h: the check is B89Fh.
     ∷ check (Set 3 0x60 0x43) 0xB89F
-    -- P1.1. 3C0h gets 11h and 5Ah, 12h and FFh: AR11 is 5Ah, AR12 is 3Fh; 3C1h reads 3Fh and 3C0h reads 12h.
+    -- P1.1. With XR09 = 03h, which does nothing here, 3C0h gets 11h and 5Ah, 12h and FFh: AR11 is 5Ah, AR12 is 3Fh; 3C1h reads 3Fh and 3C0h
+    -- reads 12h.
     ∷ chip 0x02 0x00
-    (gets 0x3C0 0x11 ∷ gets 0x3C0 0x5A ∷ gets 0x3C0 0x12 ∷ gets 0x3C0 0xFF
+    (gets 0x3D6 0x09 ∷ gets 0x3D7 0x03 ∷ is Xr 0x09 0x03
+    ∷ gets 0x3C0 0x11 ∷ gets 0x3C0 0x5A ∷ gets 0x3C0 0x12 ∷ gets 0x3C0 0xFF
     ∷ is Ar 0x11 0x5A ∷ is Ar 0x12 0x3F ∷ reads 0x3C1 0x3F ∷ reads 0x3C0 0x12 ∷ [])
     -- P1.2. MSR bit 0 = 0. 3C0h gets 13h, 3C0h and 3C1h are read, 3DAh reads FFh, 3C0h gets 07h: AR13 is 07h, the turn was data. 3C0h gets 14h,
     -- 3BAh reads 00h, 3C0h gets 11h: AR14 is 00h, and 3C0h reads 11h. With MSR bit 0 = 1 it is 3DAh that returns the turn.

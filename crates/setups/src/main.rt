@@ -246,10 +246,11 @@ fn case_13() -> [u8; 16] {
     out
 }
 
-// P1.1. 3C0h gets 11h and 5Ah, 12h and FFh: AR11, AR12, and what 3C1h and 3C0h read.
+// P1.1. XR09 = 03h; 3C0h gets 11h and 5Ah, 12h and FFh: AR11, AR12, and what 3C1h and 3C0h read.
 fn case_p1_1() -> [u8; 16] {
-    let a = after(after(Chip::new(0x02, 0x00), 0x3C0, 0x11), 0x3C0, 0x5A);
-    let c = after(after(a, 0x3C0, 0x12), 0x3C0, 0xFF);
+    let a = after(after(Chip::new(0x02, 0x00), 0x3D6, 0x09), 0x3D7, 0x03);
+    let b = after(after(a, 0x3C0, 0x11), 0x3C0, 0x5A);
+    let c = after(after(b, 0x3C0, 0x12), 0x3C0, 0xFF);
     let mut out = [0u8; 16];
     out[0] = c.get(Group::Ar, 0x11);
     out[1] = c.get(Group::Ar, 0x12);
