@@ -1,6 +1,6 @@
 //! The chip, written from documents 01 and 02 (P1) and from nothing else of this repository but the rows of registers, which are read
 //! from the definitions' text (crates/registers/specs): they are data, and have no second source here. The attribute registers' rows
-//! are the exception: they are written here, from chapter 12 of the databook.
+//! are written here, with the figures of the same one reading of chapter 12: a slip of the pen is found, another reading is not.
 
 use std::collections::HashMap;
 

@@ -1,5 +1,5 @@
 //! Scripts, written from documents 01 and 02 (P1): a file checked, a list of steps written as a file, a file translated into commands.
-//! Each answers a number and a value.
+//! Each answers a number and a value. The commands of group 8 are those of docs/DECISIONS.md, part 6.
 
 /// Whether a step may name the register.
 fn is_name(group: u8, index: u8) -> bool {
