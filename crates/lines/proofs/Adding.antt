@@ -1,13 +1,12 @@
--- Bytes put one behind the other, and the lines that are read from commands' bytes: each line has at most 12 bytes, and the lines
+-- The lines that are read from commands' bytes: each line has at most 12 bytes, and the lines
 -- of a list of commands are those of its bytes, whatever stands behind them.
-use Prim.Native.Nat.{ℕ, zero, suc, _+_, _*_, _≤_, _<_}
+use Prim.Native.Nat.{ℕ, zero, suc, _+_, _*_, _≤_}
 use native.Mathlib.Omega.{arith}
 use native.Mathlib.Numerals.{add-one}
 use mathlib.Core.Path.{_≡_, refl, sym, ap, _∙_}
 use mathlib.Core.List.{List, [], _∷_, _++_, append-assoc, append-nil}
-use lib.ListN.{length, getD, set, length-append}
-use lib.Seq.{paste, paste-suc, getD-append-add}
-use Rattle.lists.proofs.Put.{put-nil, put-then, length-put, paste-put}
+use lib.ListN.{length, getD, length-append}
+use lib.Seq.{getD-append-add}
 use Rattle.commands.specs.Command.{bytesOf, commandOf, bytesOfAll}
 use Rattle.commands.specs.declared.Command.{Command}
 use Rattle.commands.specs.declared.Command.the-variants.{Out, In, Merge, OutAcc}
@@ -15,32 +14,7 @@ use Rattle.commands.specs.declared.CommandRead.{CommandRead}
 use Rattle.commands.specs.declared.CommandRead.the-variants.{Known, Unknown}
 use Rattle.commands.proofs.Codec.{bytes-read}
 use Rattle.lines.specs.Line.{line, linesOf}
-use Rattle.lines.specs.Adding.{Added, lineRead, commandAt, linesTo}
-
--- ---- bytes put behind others
-pub paste-more : (o b : List ℕ) (at i : ℕ) {o₁ : List ℕ} → o₁ ≡ paste o at b i → at + i < length o → i < length b
-    → set o₁ (at + i) (getD b i 0) ≡ paste o at b (i + 1)
-paste-more o b at i e h k = rw (add-one, e) (paste-suc o at b i 0 h k)
-
-pub added-none : (o : List ℕ) (at : ℕ) → Added o at [] o at
-added-none o at = record { now = sym (put-nil o at); next = omega arith }
-
--- a loop that has copied every byte
-pub added-all : (o b : List ℕ) (at i : ℕ) {o₁ : List ℕ} → o₁ ≡ paste o at b i → length b ≡ i → Added o at b o₁ (at + i)
-added-all o b at i e k = record { now = e ∙ paste-put o at b i k; next = ap (_+_ at) (sym k) }
-
-pub added-length : {o : List ℕ} {at : ℕ} {x : List ℕ} {o₁ : List ℕ} {e : ℕ} → Added o at x o₁ e → e ≤ length o → length o₁ ≡ length o
-added-length {o} {at} {x} {o₁} {e} s h =
-    let n : e ≡ at + length x = s .next in
-    ap length (s .now) ∙ length-put o x at (omega arith)
-
-pub added-append : {o : List ℕ} {at : ℕ} {x : List ℕ} {o₁ : List ℕ} {e₁ : ℕ} {y : List ℕ} {o₂ : List ℕ} {e₂ : ℕ}
-    → Added o at x o₁ e₁ → Added o₁ e₁ y o₂ e₂ → e₂ ≤ length o → Added o at (x ++ y) o₂ e₂
-added-append {o} {at} {x} {o₁} {e₁} {y} {o₂} {e₂} s t h =
-    let nx : e₁ ≡ at + length x = s .next in
-    let ny : e₂ ≡ e₁ + length y = t .next in
-    let l : length (x ++ y) ≡ length x + length y = length-append x y in
-    record { now = put-then o x y at e₁ (s .now) (t .now) nx (omega arith); next = omega arith }
+use Rattle.lines.specs.Adding.{lineRead, commandAt, linesTo}
 
 -- ---- lines that are read from bytes
 pub line-most : (c : Command) → length (line c) ≤ 12

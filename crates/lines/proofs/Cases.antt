@@ -11,7 +11,7 @@ use Rattle.script.specs.File.{stepCount, checked}
 use Rattle.script.specs.Reader.{nextOf}
 use Rattle.commands.specs.Expansion.{ways, expanded, commandsOf}
 use Rattle.commands.specs.Translation.{stepsTo, translated}
-use Rattle.lines.specs.Digits.{decimalIn}
+use Rattle.text.specs.Digits.{decimalIn}
 use Rattle.lines.specs.Line.{linesOf}
 use Rattle.lines.specs.Text.{text}
 

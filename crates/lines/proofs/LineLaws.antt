@@ -7,9 +7,9 @@ use mathlib.Core.List.{List, [], _∷_, _++_}
 use lib.ListN.{getD, take, drop, length}
 use Rattle.commands.specs.declared.Command.{Command}
 use Rattle.commands.specs.declared.Command.the-variants.{Out, In, Merge, OutAcc}
-use Rattle.lines.specs.Digits.{byteDigits, portDigits}
+use Rattle.text.specs.Digits.{byteDigits, portDigits}
 use Rattle.lines.specs.Line.{line, linesOf}
-use Rattle.lines.proofs.DigitLaws.{valueOf, byte-read, port-read}
+use Rattle.text.proofs.DigitLaws.{valueOf, byte-read, port-read}
 
 abbrev pub Shown : Command → Type 0
 Shown (Out port value) = (port < 0x1000) × (value < 256)

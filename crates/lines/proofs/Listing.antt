@@ -20,12 +20,13 @@ use Rattle.commands.specs.Translation.{commandsTo, begins, ifRoom, translated, 
 use Rattle.commands.specs.declared.Translated.{Translated}
 use Rattle.commands.specs.declared.Translated.the-variants.{Commands, Refused}
 use Rattle.commands.proofs.Expanding.{begins-most}
-use Rattle.lines.specs.Digits.{decimal}
+use Rattle.text.specs.Digits.{decimal}
 use Rattle.lines.specs.Line.{linesOf}
 use Rattle.lines.specs.Text.{header, refusal, textBy, text, wanted, listed, leftBy}
-use Rattle.lines.specs.Adding.{Added, linesTo}
+use Rattle.text.specs.Adding.{Added}
+use Rattle.lines.specs.Adding.{linesTo}
 use Rattle.lines.specs.declared.Listed.the-variants.{Text, Short}
-use Rattle.lines.proofs.DigitLaws.{decimal-most}
+use Rattle.text.proofs.DigitLaws.{decimal-most}
 use Rattle.lines.proofs.Adding.{lines-read}
 
 -- ---- the longest header, and the longest line of a refusal

@@ -1,20 +1,12 @@
--- How the text grows: bytes put behind those that stand in an output, and the lines of commands that are read from their bytes.
--- Only the private functions' contracts speak of these. That the lines of a translated script's bytes are its commands' lines is
--- proofs/Adding.
+-- How the text grows: the lines of commands that are read from their bytes. Only the private functions' contracts speak of these.
+-- That the lines of a translated script's bytes are its commands' lines is proofs/Adding.
 use Prim.Native.Nat.{ℕ, zero, suc, _+_, _*_}
-use mathlib.Core.Path.{_≡_}
 use mathlib.Core.List.{List, [], _++_}
-use lib.ListN.{length, getD}
-use Rattle.lists.specs.Put.{put}
+use lib.ListN.{getD}
 use Rattle.commands.specs.Command.{commandOf}
 use Rattle.commands.specs.declared.CommandRead.{CommandRead}
 use Rattle.commands.specs.declared.CommandRead.the-variants.{Known, Unknown}
 use Rattle.lines.specs.Line.{line}
-
--- bytes stand in an output from a place on, and end at another
-pub record Added (before : List ℕ) (at : ℕ) (bytes : List ℕ) (after : List ℕ) (end : ℕ) : Type 0 where
-  pub now : after ≡ put before at bytes
-  pub next : end ≡ at + length bytes
 
 -- four bytes of no known form have no line: a translation has none of them
 abbrev pub lineRead : CommandRead → List ℕ

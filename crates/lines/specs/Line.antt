@@ -4,7 +4,7 @@ use Prim.Native.Nat.{ℕ}
 use mathlib.Core.List.{List, [], _∷_, _++_}
 use Rattle.commands.specs.declared.Command.{Command}
 use Rattle.commands.specs.declared.Command.the-variants.{Out, In, Merge, OutAcc}
-use Rattle.lines.specs.Digits.{byteDigits, portDigits}
+use Rattle.text.specs.Digits.{byteDigits, portDigits}
 
 abbrev pub space : List ℕ
 space = 0x20 ∷ []

@@ -13,7 +13,7 @@ use Rattle.script.specs.Numbers.{ofRefusal}
 use Rattle.commands.specs.Translation.{commandsTo, translated}
 use Rattle.commands.specs.declared.Translated.{Translated}
 use Rattle.commands.specs.declared.Translated.the-variants.{Commands, Refused}
-use Rattle.lines.specs.Digits.{decimal}
+use Rattle.text.specs.Digits.{decimal}
 use Rattle.lines.specs.Line.{space, lineFeed, linesOf}
 use Rattle.lines.specs.declared.Listed.{Listed}
 use Rattle.lines.specs.declared.Listed.the-variants.{Text, Short}

@@ -1,16 +1,17 @@
 // The listing of a script file as text: a header, then a line for each of its commands; or the number of its
 // refusal. Document 01, "The listing program". The definition is specs/Text, with the lines in specs/Line and
-// the digits in specs/Digits. Reading a file and printing the text is the program listing's.
+// the digits in the crate text. Reading a file and printing the text is the program listing's.
 ghost use mathlib.Core.Path.{_≡_};
 ghost use mathlib.Core.List.{_++_};
 ghost use Prim.Native.Nat.{_+_, _*_, _≤_};
 ghost use lib.ListN.{length};
 ghost use Rattle.script.specs.Numbers.{ofRefusal};
 ghost use Rattle.commands.specs.Translation.{translated, leftBy as translatedBy};
-ghost use Rattle.lines.specs.Digits.{lastDigit, decimalIn};
+ghost use Rattle.text.specs.Digits.{decimalIn};
 ghost use Rattle.lines.specs.Line.{line};
 ghost use Rattle.lines.specs.Text.{header, refusal, listed, leftBy};
-ghost use Rattle.lines.specs.Adding.{Added, lineRead, linesTo};
+ghost use Rattle.text.specs.Adding.{Added};
+ghost use Rattle.lines.specs.Adding.{lineRead, linesTo};
 use commands::Command;
 use commands::CommandRead;
 use commands::Translated;
@@ -18,6 +19,7 @@ use commands::command_of;
 use commands::translate;
 use script::Refusal;
 use script::step_count;
+use text::digit;
 
 // What the listing answers: how many bytes of text there are, or that the output is too short.
 pub enum Listed {
@@ -25,25 +27,12 @@ pub enum Listed {
     Short,
 }
 
-// The last hexadecimal digit of a number.
-fn digit(n: u16) -> u8
-    ensures { λ r. ⌜ r ≡ lastDigit n ⌝ }
-{
-    let d = (n % 16) as u8;
-    if d < 10 { 0x30 + d } else { 0x37 + d }
-}
-
-// Bytes behind those that stand in an output; where the next one goes.
+// Bytes behind those that stand in an output that has room for them; where the next one goes.
 fn add(out: &mut [u8], at: usize, bytes: &[u8]) -> usize
     requires { ⌜ at + length (now bytes) ≤ length (now out) ⌝ }
     ensures { λ r. ⌜ Added (now (out .entry)) at (now (bytes .entry)) (now (out .exit)) r ⌝ }
 {
-    let mut i = 0;
-    while i < bytes.len() {
-        out[at + i] = bytes[i];
-        i += 1;
-    }
-    at + i
+    text::add(out, at, bytes)
 }
 
 // The line of a command.

@@ -5,8 +5,8 @@ use borrow.Fn.PlainCycle.{Measures, is, falls, and}
 use borrow.Author.Needs.{needs}
 use native.Mathlib.Omega.{arith}
 use denote.Ref.{now}
-use Rattle.lines.proofs.DigitLaws.{decimal-none, decimal-small, decimal-more, decimal-most}
-use Rattle.lines.proofs.Adding.{added-none, added-append}
+use Rattle.text.proofs.DigitLaws.{decimal-none, decimal-small, decimal-more, decimal-most}
+use Rattle.text.proofs.Adding.{added-none, added-append}
 use Rattle.lines.proofs.add_decimal.Reads as add-decimal
 use Rattle.lines.proofs.add_decimal.Kinds as add-decimal-kinds
 use Rattle.lines.proofs.+add_decimal.Lts-add_decimal as add-decimal-lts

@@ -5,8 +5,10 @@ use native.Mathlib.Omega.{arith}
 use borrow.Author.Needs.{needs}
 use denote.Ref.{now}
 use lib.ListN.{length}
-use Rattle.lines.specs.Adding.{Added, commandAt, linesTo}
-use Rattle.lines.proofs.Adding.{added-none, added-append, added-length, read-most, lines-most, lines-start, lines-next}
+use Rattle.text.specs.Adding.{Added}
+use Rattle.lines.specs.Adding.{commandAt, linesTo}
+use Rattle.text.proofs.Adding.{added-none, added-append, added-length}
+use Rattle.lines.proofs.Adding.{read-most, lines-most, lines-start, lines-next}
 use Rattle.lines.proofs.add_lines.Statement.{statement}
 use Rattle.lines.proofs.add_lines.Tie as tie
 

@@ -2,7 +2,8 @@
 use borrow.Author.Needs.{needs}
 use native.Mathlib.Omega.{arith}
 use denote.Ref.{now}
-use Rattle.lines.proofs.Adding.{added-append, lines-most}
+use Rattle.text.proofs.Adding.{added-append}
+use Rattle.lines.proofs.Adding.{lines-most}
 use Rattle.lines.proofs.Listing.{header-most}
 use Rattle.lines.proofs.add_text.Statement.{statement}
 use Rattle.lines.proofs.add_text.Tie as tie

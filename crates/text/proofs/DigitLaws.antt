@@ -9,7 +9,7 @@ use mathlib.Core.List.{List, [], _∷_, _++_}
 use lib.Dec.{ltb}
 use lib.ListN.{length, length-append}
 use borrow.Author.Tests.{lt-ltb, le-ltb, ltb-true, ltb-false}
-use Rattle.lines.specs.Digits.{hexDigit, byteDigits, portDigits, decimalIn}
+use Rattle.text.specs.Digits.{hexDigit, byteDigits, portDigits, decimalIn}
 
 -- ---- one place more
 pub decimal-none : (n : ℕ) → decimalIn 0 n ≡ []

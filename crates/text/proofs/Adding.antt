@@ -1,0 +1,51 @@
+-- Bytes put one behind the other: where there is room for them, `withAdded` and `behind` are `Added`; nothing added changes nothing,
+-- the length stays, and bytes added behind others are both of them added at once.
+use Prim.Native.Nat.{ℕ, _+_, _≤_, _<_}
+use native.Mathlib.Omega.{arith}
+use native.Mathlib.Numerals.{add-one}
+use mathlib.Core.Path.{_≡_, refl, sym, ap, _∙_}
+use mathlib.Core.List.{List, [], _++_}
+use lib.ListN.{length, getD, set, length-append}
+use lib.Seq.{paste, paste-suc}
+use borrow.Author.Tests.{le-leb, lt-leb}
+use Rattle.lists.proofs.Put.{put-nil, put-then, length-put, paste-put}
+use Rattle.text.specs.Adding.{fits, withAdded, behind, Added}
+
+-- ---- room
+module _ (o : List ℕ) (at : ℕ) (x : List ℕ) where
+  pub added-fits : at + length x ≤ length o → {o₁ : List ℕ} {r : ℕ} → r ≡ behind o at x → o₁ ≡ withAdded o at x → Added o at x o₁ r
+  unfolding withAdded behind
+  added-fits h e f = record { now = f ∙ rw (le-leb _ _ h); next = e ∙ rw (le-leb _ _ h) }
+
+  pub none-added : length o < at + length x → (at ≡ behind o at x) × (o ≡ withAdded o at x)
+  unfolding withAdded behind
+  none-added h = (rw (lt-leb _ _ h), rw (lt-leb _ _ h))
+
+  pub fits-added : at + length x ≤ length o → {o₁ : List ℕ} {r : ℕ} → Added o at x o₁ r → (r ≡ behind o at x) × (o₁ ≡ withAdded o at x)
+  unfolding withAdded behind
+  fits-added h a = (a .next ∙ rw (le-leb _ _ h), a .now ∙ rw (le-leb _ _ h))
+
+-- ---- bytes put behind others
+pub paste-more : (o b : List ℕ) (at i : ℕ) {o₁ : List ℕ} → o₁ ≡ paste o at b i → at + i < length o → i < length b
+    → set o₁ (at + i) (getD b i 0) ≡ paste o at b (i + 1)
+paste-more o b at i e h k = rw (add-one, e) (paste-suc o at b i 0 h k)
+
+pub added-none : (o : List ℕ) (at : ℕ) → Added o at [] o at
+added-none o at = record { now = sym (put-nil o at); next = omega arith }
+
+-- a loop that has copied every byte
+pub added-all : (o b : List ℕ) (at i : ℕ) {o₁ : List ℕ} → o₁ ≡ paste o at b i → length b ≡ i → Added o at b o₁ (at + i)
+added-all o b at i e k = record { now = e ∙ paste-put o at b i k; next = ap (_+_ at) (sym k) }
+
+pub added-length : {o : List ℕ} {at : ℕ} {x : List ℕ} {o₁ : List ℕ} {e : ℕ} → Added o at x o₁ e → e ≤ length o → length o₁ ≡ length o
+added-length {o} {at} {x} {o₁} {e} s h =
+    let n : e ≡ at + length x = s .next in
+    ap length (s .now) ∙ length-put o x at (omega arith)
+
+pub added-append : {o : List ℕ} {at : ℕ} {x : List ℕ} {o₁ : List ℕ} {e₁ : ℕ} {y : List ℕ} {o₂ : List ℕ} {e₂ : ℕ}
+    → Added o at x o₁ e₁ → Added o₁ e₁ y o₂ e₂ → e₂ ≤ length o → Added o at (x ++ y) o₂ e₂
+added-append {o} {at} {x} {o₁} {e₁} {y} {o₂} {e₂} s t h =
+    let nx : e₁ ≡ at + length x = s .next in
+    let ny : e₂ ≡ e₁ + length y = t .next in
+    let l : length (x ++ y) ≡ length x + length y = length-append x y in
+    record { now = put-then o x y at e₁ (s .now) (t .now) nx (omega arith); next = omega arith }

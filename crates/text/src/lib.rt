@@ -1,0 +1,42 @@
+// Text that a program prints, as bytes in ASCII: capital hexadecimal digits, and bytes put one behind the other into a lent
+// output. The definitions are specs/Digits and specs/Adding.
+ghost use mathlib.Core.Path.{_≡_};
+ghost use Prim.Native.Nat.{_+_, _≤_};
+ghost use lib.ListN.{length};
+ghost use Rattle.text.specs.Digits.{lastDigit};
+ghost use Rattle.text.specs.Adding.{withAdded, behind, Added};
+
+// The last hexadecimal digit of a number.
+pub fn digit(n: u16) -> u8
+    ensures { λ r. ⌜ r ≡ lastDigit n ⌝ }
+{
+    let d = (n % 16) as u8;
+    if d < 10 { 0x30 + d } else { 0x37 + d }
+}
+
+// Bytes behind those that stand in an output with room for them; where the next one goes.
+fn copy(out: &mut [u8], at: usize, bytes: &[u8]) -> usize
+    requires { ⌜ at + length (now bytes) ≤ length (now out) ⌝ }
+    ensures { λ r. ⌜ Added (now (out .entry)) at (now (bytes .entry)) (now (out .exit)) r ⌝ }
+{
+    let mut i = 0;
+    while i < bytes.len() {
+        out[at + i] = bytes[i];
+        i += 1;
+    }
+    at + i
+}
+
+// Bytes behind those that stand in an output, if there is room for all of them; where the next one goes.
+pub fn add(out: &mut [u8], at: usize, bytes: &[u8]) -> usize
+    ensures { λ r. ⌜ r ≡ behind (now (out .entry)) at (now (bytes .entry)) ⌝ }
+    ensures { λ r. ⌜ now (out .exit) ≡ withAdded (now (out .entry)) at (now (bytes .entry)) ⌝ }
+{
+    if out.len() < at {
+        return at;
+    }
+    if out.len() - at < bytes.len() {
+        return at;
+    }
+    copy(out, at, bytes)
+}
