@@ -1,4 +1,4 @@
--- Bytes put one behind the other: where there is room for them, `withAdded` and `behind` are `Added`; nothing added changes nothing,
+-- Bytes put one behind the other: where there is room, `withAddedIn` and `behindIn` are `Added`; nothing added changes nothing,
 -- the length stays, and bytes added behind others are both of them added at once.
 use Prim.Native.Nat.{ℕ, _+_, _≤_, _<_}
 use native.Mathlib.Omega.{arith}
@@ -9,21 +9,25 @@ use lib.ListN.{length, getD, set, length-append}
 use lib.Seq.{paste, paste-suc}
 use borrow.Author.Tests.{le-leb, lt-leb}
 use Rattle.lists.proofs.Put.{put-nil, put-then, length-put, paste-put}
-use Rattle.text.specs.Adding.{fits, withAdded, behind, Added}
+use Rattle.text.specs.Adding.{withAddedIn, behindIn, withAdded, behind, Added}
 
 -- ---- room
-module _ (o : List ℕ) (at : ℕ) (x : List ℕ) where
-  pub added-fits : at + length x ≤ length o → {o₁ : List ℕ} {r : ℕ} → r ≡ behind o at x → o₁ ≡ withAdded o at x → Added o at x o₁ r
-  unfolding withAdded behind
-  added-fits h e f = record { now = f ∙ rw (le-leb _ _ h); next = e ∙ rw (le-leb _ _ h) }
+module _ (room : ℕ) (o : List ℕ) (at : ℕ) (x : List ℕ) where
+  pub added-in : at + room ≤ length o → {o₁ : List ℕ} {r : ℕ} → r ≡ behindIn room o at x → o₁ ≡ withAddedIn room o at x → Added o at x o₁ r
+  unfolding withAddedIn behindIn
+  added-in h e f = record { now = f ∙ rw (le-leb _ _ h); next = e ∙ rw (le-leb _ _ h) }
 
-  pub none-added : length o < at + length x → (at ≡ behind o at x) × (o ≡ withAdded o at x)
-  unfolding withAdded behind
-  none-added h = (rw (lt-leb _ _ h), rw (lt-leb _ _ h))
+  pub none-in : length o < at + room → (at ≡ behindIn room o at x) × (o ≡ withAddedIn room o at x)
+  unfolding withAddedIn behindIn
+  none-in h = (rw (lt-leb _ _ h), rw (lt-leb _ _ h))
 
-  pub fits-added : at + length x ≤ length o → {o₁ : List ℕ} {r : ℕ} → Added o at x o₁ r → (r ≡ behind o at x) × (o₁ ≡ withAdded o at x)
-  unfolding withAdded behind
-  fits-added h a = (a .next ∙ rw (le-leb _ _ h), a .now ∙ rw (le-leb _ _ h))
+  pub in-added : at + room ≤ length o → {o₁ : List ℕ} {r : ℕ} → Added o at x o₁ r → (r ≡ behindIn room o at x) × (o₁ ≡ withAddedIn room o at x)
+  unfolding withAddedIn behindIn
+  in-added h a = (a .next ∙ rw (le-leb _ _ h), a .now ∙ rw (le-leb _ _ h))
+
+pub added-fits : (o : List ℕ) (at : ℕ) (x : List ℕ) → at + length x ≤ length o → {o₁ : List ℕ} {r : ℕ} → r ≡ behind o at x → o₁ ≡ withAdded o at x
+    → Added o at x o₁ r
+added-fits o at x h e f = added-in (length x) o at x h e f
 
 -- ---- bytes put behind others
 pub paste-more : (o b : List ℕ) (at i : ℕ) {o₁ : List ℕ} → o₁ ≡ paste o at b i → at + i < length o → i < length b

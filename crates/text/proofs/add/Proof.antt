@@ -4,7 +4,7 @@ use native.Mathlib.Omega.{arith}
 use denote.Ref.{now}
 use borrow.Author.Needs.{needs}
 use lib.ListN.{length}
-use Rattle.text.proofs.Adding.{none-added, fits-added}
+use Rattle.text.proofs.Adding.{none-in, in-added}
 use Rattle.text.proofs.add.Statement.{statement}
 use Rattle.text.proofs.add.Tie as tie
 
@@ -12,9 +12,9 @@ pub add-spec : {M : Type 1} → statement M
 add-spec =
     tie.close
     (tie.spec
-    (λ c. let a = c .before .before .before .args in none-added (now (a .out)) (a .at) (now (a .bytes)) (omega arith))
+    (λ c. let a = c .before .before .before .args in none-in (length (now (a .bytes))) (now (a .out)) (a .at) (now (a .bytes)) (omega arith))
     (λ c. search needs)
-    (λ c. let a = c .before .before .before .before .args in none-added (now (a .out)) (a .at) (now (a .bytes)) (omega arith))
+    (λ c. let a = c .before .before .before .before .args in none-in (length (now (a .bytes))) (now (a .out)) (a .at) (now (a .bytes)) (omega arith))
     (λ c κs. search needs)
     (λ c. search needs)
-    (λ c. let a = c .before .before .before .before .before .before .before .before .args in fits-added (now (a .out)) (a .at) (now (a .bytes)) (omega arith) (c .before .before .copy .ensures)))
+    (λ c. let a = c .before .before .before .before .before .before .before .before .args in in-added (length (now (a .bytes))) (now (a .out)) (a .at) (now (a .bytes)) (omega arith) (c .before .before .copy .ensures)))
