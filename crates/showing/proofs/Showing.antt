@@ -1,0 +1,60 @@
+-- The text's lines are at most 20 bytes each, and the answers of `show` in each of its ways.
+use Prim.Native.Nat.{ℕ, zero, suc, _+_, _*_, _≤_, _<_}
+use native.Mathlib.Omega.{arith}
+use native.Mathlib.Numerals.{add-one}
+use mathlib.Core.Path.{_≡_, refl, sym, ap, _∙_}
+use mathlib.Core.List.{List, [], _++_}
+use lib.ListN.{length, length-append}
+use borrow.Author.Tests.{lt-ltb, le-ltb}
+use Rattle.text.specs.Adding.{Added}
+use Rattle.script.specs.File.{stepCount, checked}
+use Rattle.script.specs.Reader.{nextOf}
+use Rattle.script.specs.declared.Checked.{Checked}
+use Rattle.script.specs.declared.Checked.the-variants.{Accepted, Refused as NotAccepted}
+use Rattle.script.specs.declared.Refusal.{Refusal}
+use Rattle.script.specs.declared.Refusal.the-variants.{Room}
+use Rattle.script.specs.declared.Next.{Next}
+use Rattle.script.specs.declared.Next.the-variants.{Found, Refused as NoStep, End}
+use Rattle.script.proofs.Checking.{answer-says}
+use Rattle.spelling.proofs.Lengths.{line-most}
+use Rattle.showing.specs.Show.{lineOfNext, textTo, textOf, shown, leftBy}
+use Rattle.showing.specs.declared.Shown.the-variants.{Text, Refused}
+
+pub next-most : (x : Next) → length (lineOfNext x) ≤ 20
+next-most (Found s) = line-most s
+next-most (NoStep r) = omega arith
+next-most End = omega arith
+
+pub text-most : (f : List ℕ) (n : ℕ) → length (textTo f n) ≤ 20 * n
+unfolding textTo
+text-most f zero = omega arith
+text-most f (suc n) =
+    let h : length (textTo f n) ≤ 20 * n = text-most f n in
+    let k : length (lineOfNext (nextOf f n)) ≤ 20 = next-most (nextOf f n) in
+    simp length-append (omega arith)
+
+pub text-start : (f : List ℕ) → textTo f 0 ≡ []
+unfolding textTo
+text-start f = refl
+
+pub text-next : (f : List ℕ) (n : ℕ) → textTo f (n + 1) ≡ textTo f n ++ lineOfNext (nextOf f n)
+unfolding textTo
+text-next f n = rw (add-one n)
+
+-- ---- the answers
+module _ (f : List ℕ) (room : ℕ) where
+  pub shown-refused : (r : Refusal) → checked f ≡ NotAccepted r → Refused r ≡ shown f room
+  unfolding shown
+  shown-refused r e = rw e
+
+  module _ (m : ℕ) (e : checked f ≡ Accepted m) where
+    pub shown-short : room < 20 * m → Refused Room ≡ shown f room
+    unfolding shown
+    shown-short h = rw (e, lt-ltb _ _ h)
+
+    pub shown-text : 20 * m ≤ room → {out o : List ℕ} {n : ℕ} → Added out 0 (textTo f m) o n → (Text n ≡ shown f room) × (o ≡ leftBy (Text n) f out)
+    unfolding shown
+    shown-text h {out} {o} {n} a =
+        let count : stepCount f ≡ m = answer-says f e .count in
+        let next : n ≡ length (textTo f m) = omega (arith, a .next) in
+        (rw (e, le-ltb _ _ h, count, next), a .now ∙ rw count)

@@ -1,0 +1,22 @@
+-- Too little room, the text, and what the check refuses.
+use mathlib.Core.Path.{refl, sym, _∙_}
+use native.Mathlib.Omega.{arith}
+use denote.Ref.{now}
+use borrow.Author.Needs.{needs}
+use lib.ListN.{length}
+use Rattle.showing.proofs.Showing.{shown-refused, shown-short, shown-text}
+use Rattle.showing.proofs.show.Statement.{statement}
+use Rattle.showing.proofs.show.Tie as tie
+
+pub show-spec : {M : Type 1} → statement M
+show-spec =
+    tie.close
+    (tie.spec
+    (λ c κs. search needs)
+    (λ c. search needs)
+    (λ c. let a = c .before .before .before .before .before .before .before .args in (shown-short (now (a .file)) (length (now (a .out))) _ (sym (c .before .before .before .before .check-file .ensures .0) ∙ c .before .before .m .given .1) (omega arith), refl))
+    (λ c κs. search needs)
+    (λ c. search needs)
+    (λ c. search needs)
+    (λ c. let a = c .before .before .before .before .before .before .before .before .before .before .before .args in shown-text (now (a .file)) (length (now (a .out))) _ (sym (c .before .before .before .before .before .before .before .before .check-file .ensures .0) ∙ c .before .before .before .before .before .before .m .given .1) (omega (arith, c .before .before .before .before .if1 .left)) (c .before .before .put-lines .ensures))
+    (λ c. let a = c .before .before .before .before .before .before .args in (shown-refused (now (a .file)) (length (now (a .out))) _ (sym (c .before .before .before .check-file .ensures .0) ∙ c .before .r .given .1), refl)))
