@@ -109,7 +109,7 @@ module _ (g : ℕ) (group : g < 9) where
   letters-read : lettersRead g ≡ true
   letters-read = every-at lettersRead 0 9 all-letters g (omega arith) (omega arith)
 
-  letter-range : (0x3F ≤ letter g) × (letter g < 0x5B)
+  pub letter-range : (0x3F ≤ letter g) × (letter g < 0x5B)
   letter-range =
       let t = and-both (leb 0x3F (letter g) && ltb (letter g) 0x5B) (eqb (groupOf (256 * letter g + 0x52)) g || eqb g 6 || eqb g 7) letters-read in
       let u = and-both (leb 0x3F (letter g)) (ltb (letter g) 0x5B) (t .0) in

@@ -1,0 +1,78 @@
+-- A text made into a script file. Line by line, counted from 0: a line to pass over adds nothing, a step adds its six bytes, and the
+-- first line that is of another form, whose step is not legal (document 01's 7), or whose step is the 1,009th (8) is reported. What is
+-- gathered then goes to the writer, which refuses a text without a step (8) and an output with too little room (9). A refusal changes
+-- no byte of the output. How a line is read is the crate spelling's Reading.
+use Prim.Native.Nat.{ℕ, _+_}
+use mathlib.Core.Bool.{Bool, cond}
+use mathlib.Core.List.{List, [], _∷_, _++_}
+use lib.Dec.{ltb}
+use lib.ListN.{length}
+use Rattle.lists.specs.Put.{put}
+use Rattle.lists.specs.Numbers.{Returned, returned}
+use Rattle.steps.specs.Step.{legal, bytesOf}
+use Rattle.script.specs.Numbers.{ofRefusal}
+use Rattle.spelling.specs.Reading.{lineOf}
+use Rattle.spelling.specs.declared.Line.{Line}
+use Rattle.spelling.specs.declared.Line.the-variants.{Pass, Is, Other}
+use Rattle.writer.specs.Write.{fileOf, written}
+use Rattle.writer.specs.declared.Written.{Written}
+use Rattle.writer.specs.declared.Written.the-variants.{Blocks as InBlocks, Refused as NotWritten}
+use Rattle.composing.specs.Lines.{linesOf}
+use Rattle.composing.specs.declared.Verdict.{Verdict}
+use Rattle.composing.specs.declared.Verdict.the-variants.{Fine, Form, Step, Many}
+use Rattle.composing.specs.declared.Composed.{Composed}
+use Rattle.composing.specs.declared.Composed.the-variants.{Blocks, Stopped, Refused}
+
+-- what is wrong with a line, with so many bytes of steps before it: 1,008 steps are 6,048 bytes
+abbrev pub stepVerdict : Bool → ℕ → Verdict
+stepVerdict isLegal size = cond isLegal (cond (ltb size 6048) Fine Many) Step
+
+abbrev pub verdict : Line → ℕ → Verdict
+verdict Pass size = Fine
+verdict (Is step) size = stepVerdict (legal step) size
+verdict Other size = Form
+
+-- the steps with those of a line
+abbrev pub withLine : Line → List ℕ → List ℕ
+withLine (Is step) steps = steps ++ bytesOf step
+withLine Pass steps = steps
+withLine Other steps = steps
+
+-- a line that is not fine is the answer
+abbrev pub orStop : Verdict → ℕ → Composed → Composed
+orStop Fine k rest = rest
+orStop Form k rest = Stopped Form k
+orStop Step k rest = Stopped Step k
+orStop Many k rest = Stopped Many k
+
+abbrev pub ofWriter : Written → Composed
+ofWriter (InBlocks n) = Blocks n
+ofWriter (NotWritten r) = Refused r
+
+-- from line k on, with the steps of the lines before it
+unfoldable pub composedFrom : ℕ → List ℕ → List (List ℕ) → ℕ → Composed
+composedFrom k steps [] room = ofWriter (written steps room)
+composedFrom k steps (l ∷ ls) room = orStop (verdict (lineOf l) (length steps)) k (composedFrom (k + 1) (withLine (lineOf l) steps) ls room)
+
+unfoldable pub gathered : List ℕ → List (List ℕ) → List ℕ
+gathered steps [] = steps
+gathered steps (l ∷ ls) = gathered (withLine (lineOf l) steps) ls
+
+-- the answer, the file, and what the lent output then holds
+abbrev pub composed : List ℕ → ℕ → Composed
+composed text room = composedFrom 0 [] (linesOf text) room
+
+abbrev pub fileOfText : List ℕ → List ℕ
+fileOfText text = fileOf (gathered [] (linesOf text))
+
+abbrev pub leftBy : Composed → List ℕ → List ℕ → List ℕ
+leftBy (Blocks n) text out = put out 0 (fileOfText text)
+leftBy (Stopped v k) text out = out
+leftBy (Refused r) text out = out
+
+-- document 01's number; 0 for a line of another form, which has none
+abbrev pub verdictNumber : Verdict → ℕ
+verdictNumber Fine = 0
+verdictNumber Form = 0
+verdictNumber Step = 7
+verdictNumber Many = 8

@@ -1,0 +1,178 @@
+// A text made into a script file: a step a line, blank lines and those that begin with `#` passed over. The definitions are
+// specs/Lines and specs/Compose; how a line is read is the crate spelling's, and the file the crate writer's. That composing what the
+// crate showing makes of a file gives the file again is proofs/SameFile. Reading a text and printing the file is the program
+// compose's.
+ghost use mathlib.Core.Path.{_≡_};
+ghost use Prim.Native.Nat.{_+_, _≤_, _<_};
+ghost use lib.ListN.{length};
+ghost use Rattle.writer.specs.Write.{written, leftBy as writtenBy};
+ghost use Rattle.composing.specs.Compose.{stepVerdict, verdict, verdictNumber, ofWriter, composed, leftBy};
+ghost use Rattle.composing.specs.Working.{isFine, LineEnds, lineSize, Kept, Gathers};
+use script::Refusal;
+use spelling::Line;
+use spelling::read_line;
+use steps::is_legal;
+use steps::to_bytes;
+use text::add;
+use writer::Written;
+use writer::write;
+
+// What a line comes to: it is fine; it is of another form; its step is not legal; its step is one too many.
+pub enum Verdict {
+    Fine,
+    Form,
+    Step,
+    Many,
+}
+
+// What composing a text answers: the number of blocks, the line that is not fine, counted from 0, or what the writer refuses.
+pub enum Composed {
+    Blocks(usize),
+    Stopped(Verdict, usize),
+    Refused(Refusal),
+}
+
+// The lines of a text gathered: how many bytes of steps there are, or the line that is not fine.
+enum Gathered {
+    Steps(usize),
+    Stopped(Verdict, usize),
+}
+
+// Document 01's number for a verdict; 0 where it has none.
+pub fn verdict_number(v: Verdict) -> u8
+    ensures { λ r. ⌜ r ≡ verdictNumber v ⌝ }
+{
+    match v {
+        Verdict::Fine => 0,
+        Verdict::Form => 0,
+        Verdict::Step => 7,
+        Verdict::Many => 8,
+    }
+}
+
+// Whether a line is fine.
+fn is_fine(v: Verdict) -> bool
+    ensures { λ r. ⌜ r ≡ isFine v ⌝ }
+{
+    match v {
+        Verdict::Fine => true,
+        Verdict::Form => false,
+        Verdict::Step => false,
+        Verdict::Many => false,
+    }
+}
+
+// What a step comes to, with so many bytes of steps before it.
+fn judge_step(legal: bool, size: usize) -> Verdict
+    ensures { λ r. ⌜ r ≡ stepVerdict legal size ⌝ }
+{
+    if legal {
+        if size < 6048 {
+            return Verdict::Fine;
+        }
+        return Verdict::Many;
+    }
+    Verdict::Step
+}
+
+// What a line comes to, with so many bytes of steps before it.
+fn judge(line: Line, size: usize) -> Verdict
+    ensures { λ r. ⌜ r ≡ verdict line size ⌝ }
+{
+    match line {
+        Line::Pass => Verdict::Fine,
+        Line::Is(step) => judge_step(is_legal(step), size),
+        Line::Other => Verdict::Form,
+    }
+}
+
+// Where the line at a place ends: at its line feed, or at the text's end.
+fn line_end(text: &[u8], from: usize) -> usize
+    requires { ⌜ from < length (now text) ⌝ }
+    ensures { λ r. ⌜ LineEnds (now (text .entry)) from r ⌝ }
+{
+    let mut i = from;
+    while i < text.len() {
+        if text[i] == 0x0A {
+            return i;
+        }
+        i += 1;
+    }
+    i
+}
+
+// The step of a line behind the first n bytes of a buffer.
+fn keep(steps: &mut [u8], n: usize, line: Line) -> usize
+    requires { ⌜ n + lineSize line ≤ length (now steps) ⌝ }
+    ensures { λ r. ⌜ Kept (now (steps .entry)) n line (now (steps .exit)) r ⌝ }
+{
+    match line {
+        Line::Pass => n,
+        Line::Is(step) => {
+            let six = to_bytes(step);
+            add(steps, n, &six)
+        }
+        Line::Other => n,
+    }
+}
+
+// The steps of a text's lines into a buffer, or the first line that is not fine.
+fn gather(text: &[u8], steps: &mut [u8]) -> Gathered
+    requires { ⌜ length (now steps) ≡ 6054 ⌝ }
+    ensures { λ r. ⌜ Gathers (now (text .entry)) (now (steps .exit)) r ⌝ }
+{
+    let mut from = 0;
+    let mut k = 0;
+    let mut n = 0;
+    while from < text.len() {
+        let end = line_end(text, from);
+        let line = read_line(&text[from..end]);
+        let v = judge(line, n);
+        if !is_fine(v) {
+            return Gathered::Stopped(v, k);
+        }
+        n = keep(steps, n, line);
+        k += 1;
+        from = end + 1;
+    }
+    Gathered::Steps(n)
+}
+
+// Steps written as a file.
+fn finish(steps: &[u8], out: &mut [u8]) -> Composed
+    ensures { λ r. ⌜ r ≡ ofWriter (written (now (steps .entry)) (length (now (out .entry)))) ⌝ }
+    ensures { λ r. ⌜ now (out .exit) ≡ writtenBy (written (now (steps .entry)) (length (now (out .entry)))) (now (steps .entry)) (now (out .entry)) ⌝ }
+{
+    match write(steps, out) {
+        Written::Blocks(n) => Composed::Blocks(n),
+        Written::Refused(r) => Composed::Refused(r),
+    }
+}
+
+// Room for 1,008 steps and one more.
+fn step_buffer() -> [u8; 6054]
+    ensures { λ r. ⌜ 6054 ≡ length r ⌝ }
+{
+    [0; 6054]
+}
+
+// A text made into a script file in `out`, with a buffer for its steps.
+fn compose_with(text: &[u8], steps: &mut [u8], out: &mut [u8]) -> Composed
+    requires { ⌜ length (now steps) ≡ 6054 ⌝ }
+    ensures { λ r. ⌜ r ≡ composed (now (text .entry)) (length (now (out .entry))) ⌝ }
+    ensures { λ r. ⌜ now (out .exit) ≡ leftBy r (now (text .entry)) (now (out .entry)) ⌝ }
+{
+    match gather(text, steps) {
+        Gathered::Steps(n) => finish(&steps[..n], out),
+        Gathered::Stopped(v, k) => Composed::Stopped(v, k),
+    }
+}
+
+// A text made into a script file in `out`.
+pub fn compose(text: &[u8], out: &mut [u8]) -> Composed
+    ensures { λ r. ⌜ r ≡ composed (now (text .entry)) (length (now (out .entry))) ⌝ }
+    ensures { λ r. ⌜ now (out .exit) ≡ leftBy r (now (text .entry)) (now (out .entry)) ⌝ }
+{
+    let mut steps = step_buffer();
+    compose_with(text, &mut steps, out)
+}
