@@ -1,5 +1,5 @@
 -- Steps kept in a buffer, and one turn of the loop over lines in each of its ways: what is still to come from here is the whole answer.
-use Prim.Native.Nat.{ℕ, _+_, _≤_, _<_}
+use Prim.Native.Nat.{ℕ, _+_, _*_, _≤_, _<_}
 use native.Mathlib.Omega.{arith}
 use mathlib.Core.Bool.{Bool, true, false, cond}
 use mathlib.Core.Path.{_≡_, refl, sym, ap, _∙_}
@@ -20,13 +20,14 @@ use Rattle.lists.specs.Put.{put}
 use Rattle.writer.specs.Write.{fileOf, written, leftBy as writtenBy}
 use Rattle.writer.specs.declared.Written.{Written}
 use Rattle.writer.specs.declared.Written.the-variants.{Blocks as InBlocks, Refused as NotWritten}
+use Rattle.writer.proofs.Writing.{answer-says}
 use Rattle.composing.specs.Lines.{linesFrom, linesOf}
 use Rattle.composing.specs.Compose.{stepVerdict, verdict, withLine, orStop, ofWriter, composedFrom, gathered, composed, leftBy}
 use Rattle.composing.specs.Working.{isFine, part, LineEnds, lineSize, Kept, AllGathered}
 use Rattle.composing.specs.declared.Verdict.{Verdict}
 use Rattle.composing.specs.declared.Verdict.the-variants.{Fine, Form, Step as BadStep, Many}
 use Rattle.composing.specs.declared.Composed.{Composed}
-use Rattle.composing.specs.declared.Composed.the-variants.{Stopped}
+use Rattle.composing.specs.declared.Composed.the-variants.{Blocks, Stopped}
 
 -- ---- steps kept
 pub kept-pass : (o : List ℕ) (n : ℕ) → Kept o n Pass o n
@@ -139,3 +140,20 @@ module _ (t out : List ℕ) where
     e ∙ sym (g .answer (length out)),
     f ∙ left-same (written (take n b) (length out)) (take n b) (g .steps) ∙ ap (λ (c : Composed). leftBy c t out) (sym e),
   )
+
+-- ---- the file lies within the output
+pub composed-within : (ls : List (List ℕ)) (k : ℕ) (s : List ℕ) (room n : ℕ) → composedFrom k s ls room ≡ Blocks n → 512 * n ≤ room
+unfolding composedFrom
+composed-within [] k s room n e = go (written s room) refl e
+  where
+    go : (w : Written) → written s room ≡ w → ofWriter w ≡ Blocks n → 512 * n ≤ room
+    go (InBlocks m) is t = let same : m ≡ n = cc in rw same at (answer-says s room is .fits)
+    go (NotWritten r) is t = absurd (let z : _≡_ {A = ℕ} 0 1 = cc in omega arith)
+composed-within (l ∷ ls) k s room n e = go (verdict (lineOf l) (length s)) (composed-within ls (k + 1) (withLine (lineOf l) s) room n) e
+  where
+    go : (v : Verdict) → (composedFrom (k + 1) (withLine (lineOf l) s) ls room ≡ Blocks n → 512 * n ≤ room)
+        → orStop v k (composedFrom (k + 1) (withLine (lineOf l) s) ls room) ≡ Blocks n → 512 * n ≤ room
+    go Fine rest t = rest t
+    go Form rest t = absurd (let z : _≡_ {A = ℕ} 0 1 = cc in omega arith)
+    go BadStep rest t = absurd (let z : _≡_ {A = ℕ} 0 1 = cc in omega arith)
+    go Many rest t = absurd (let z : _≡_ {A = ℕ} 0 1 = cc in omega arith)

@@ -2,10 +2,12 @@
 use Prim.Native.Nat.{ℕ, zero, suc, _+_, _*_, _≤_, _<_}
 use native.Mathlib.Omega.{arith}
 use native.Mathlib.Numerals.{add-one}
-use mathlib.Core.Path.{_≡_, refl, sym, ap, _∙_}
+use mathlib.Core.Bool.{Bool, true, false, cond}
+use mathlib.Core.Path.{_≡_, refl, _∙_}
 use mathlib.Core.List.{List, [], _++_}
+use lib.Dec.{ltb}
 use lib.ListN.{length, length-append}
-use borrow.Author.Tests.{lt-ltb, le-ltb}
+use borrow.Author.Tests.{lt-ltb, le-ltb, ltb-false}
 use Rattle.text.specs.Adding.{Added}
 use Rattle.script.specs.File.{stepCount, checked}
 use Rattle.script.specs.Reader.{nextOf}
@@ -17,7 +19,7 @@ use Rattle.script.specs.declared.Next.{Next}
 use Rattle.script.specs.declared.Next.the-variants.{Found, Refused as NoStep, End}
 use Rattle.script.proofs.Checking.{answer-says}
 use Rattle.spelling.proofs.Lengths.{line-most}
-use Rattle.showing.specs.Show.{lineOfNext, textTo, textOf, shown, leftBy}
+use Rattle.showing.specs.Show.{lineOfNext, textTo, textOf, shownBy, shown, leftBy}
 use Rattle.showing.specs.declared.Shown.the-variants.{Text, Refused}
 
 pub next-most : (x : Next) → length (lineOfNext x) ≤ 20
@@ -42,6 +44,22 @@ unfolding textTo
 text-next f n = rw (add-one n)
 
 -- ---- the answers
+-- the text lies within the output
+pub shown-within : (f : List ℕ) (room n : ℕ) → shown f room ≡ Text n → n ≤ room
+unfolding shown
+shown-within f room n e = go (checked f) refl e
+  where
+    within : (m : ℕ) → checked f ≡ Accepted m → (b : Bool) → ltb room (20 * m) ≡ b → cond b (Refused Room) (Text (length (textOf f))) ≡ Text n → n ≤ room
+    within m acc true eb t = absurd (let z : _≡_ {A = ℕ} 0 1 = cc in omega arith)
+    within m acc false eb t =
+        let same : length (textOf f) ≡ n = cc in
+        let count : stepCount f ≡ m = answer-says f acc .count in
+        omega (arith, text-most f (stepCount f), ltb-false room (20 * m) eb)
+
+    go : (c : Checked) → checked f ≡ c → shownBy c f room ≡ Text n → n ≤ room
+    go (Accepted m) acc t = within m acc (ltb room (20 * m)) refl t
+    go (NotAccepted r) acc t = absurd (let z : _≡_ {A = ℕ} 0 1 = cc in omega arith)
+
 module _ (f : List ℕ) (room : ℕ) where
   pub shown-refused : (r : Refusal) → checked f ≡ NotAccepted r → Refused r ≡ shown f room
   unfolding shown
