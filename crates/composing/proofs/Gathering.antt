@@ -22,7 +22,7 @@ use Rattle.writer.specs.declared.Written.{Written}
 use Rattle.writer.specs.declared.Written.the-variants.{Blocks as InBlocks, Refused as NotWritten}
 use Rattle.writer.proofs.Writing.{answer-says}
 use Rattle.composing.specs.Lines.{linesFrom, linesOf}
-use Rattle.composing.specs.Compose.{stepVerdict, verdict, withLine, orStop, ofWriter, composedFrom, gathered, composed, leftBy}
+use Rattle.composing.specs.Compose.{verdict, withLine, orStop, ofWriter, composedFrom, gathered, composed, leftBy}
 use Rattle.composing.specs.Working.{isFine, part, LineEnds, lineSize, Kept, AllGathered}
 use Rattle.composing.specs.declared.Verdict.{Verdict}
 use Rattle.composing.specs.declared.Verdict.the-variants.{Fine, Form, Step as BadStep, Many}

@@ -30,18 +30,14 @@ use Rattle.script.proofs.Checking.{answer-says}
 use Rattle.script.proofs.Counting.{accepted-few}
 use Rattle.script.proofs.Reading.{accepted-handed}
 use Rattle.spelling.specs.Written.{letter, nameText, byteText, stepText, stepLine}
-use Rattle.spelling.specs.Reading.{lineOf}
 use Rattle.spelling.specs.declared.Line.{Line}
 use Rattle.spelling.proofs.ReadBack.{digit-range, letter-range, named-group, reads-back}
 use Rattle.showing.specs.Show.{lineOfNext, textTo, textOf}
-use Rattle.showing.proofs.Showing.{text-start, text-next}
 use Rattle.writer.specs.Write.{fileOf, written, stepsOf}
-use Rattle.writer.specs.declared.Written.the-variants.{Blocks as InBlocks}
 use Rattle.writer.proofs.Again.{file-again}
 use Rattle.writer.proofs.RoundTrip.{read-written, written-read}
 use Rattle.composing.specs.Lines.{linesFrom, linesOf}
-use Rattle.composing.specs.Compose.{verdict, withLine, orStop, ofWriter, composedFrom, gathered, composed, fileOfText, leftBy}
-use Rattle.composing.specs.declared.Composed.{Composed}
+use Rattle.composing.specs.Compose.{withLine, ofWriter, composedFrom, gathered, composed, fileOfText, leftBy}
 use Rattle.composing.specs.declared.Composed.the-variants.{Blocks}
 
 -- ---- a text without a line feed is a line of its own

@@ -8,9 +8,7 @@ use mathlib.Core.List.{List, [], _∷_, _++_}
 use lib.Dec.{ltb}
 use lib.ListN.{length}
 use Rattle.lists.specs.Put.{put}
-use Rattle.lists.specs.Numbers.{Returned, returned}
 use Rattle.steps.specs.Step.{legal, bytesOf}
-use Rattle.script.specs.Numbers.{ofRefusal}
 use Rattle.spelling.specs.Reading.{lineOf}
 use Rattle.spelling.specs.declared.Line.{Line}
 use Rattle.spelling.specs.declared.Line.the-variants.{Pass, Is, Other}

@@ -3,37 +3,29 @@
 use Prim.Native.Nat.{ℕ, _+_, _*_, _/_, _%_, _≤_, _<_}
 use native.Mathlib.Omega.{arith}
 use mathlib.Core.Bool.{Bool, true, false, cond, _&&_, _||_, false≢true}
-use mathlib.Core.Path.{_≡_, refl, sym, ap, _∙_}
+use mathlib.Core.Path.{_≡_, refl, ap, _∙_}
 use mathlib.Core.List.{List, [], _∷_, _++_, append-assoc}
 use lib.Dec.{ltb, leb, eqb}
-use lib.ListN.{getD, set, replicate}
-use borrow.Author.Tests.{lt-ltb, le-ltb, le-leb, lt-leb, eq-eqb, ne-eqb, ltb-true, leb-true, eqb-true}
+use lib.ListN.{set, replicate}
+use borrow.Author.Tests.{lt-ltb, lt-leb, ne-eqb, ltb-true, leb-true, eqb-true}
 use Rattle.lists.specs.Scan.{every}
 use Rattle.lists.specs.Tab.{Bytes}
 use Rattle.lists.proofs.Scan.{every-at}
 use Rattle.lists.proofs.Tests.{and-both}
-use Rattle.text.specs.Digits.{hexDigit, lastDigit, byteDigits}
+use Rattle.text.specs.Digits.{lastDigit, byteDigits}
 use Rattle.words.specs.declared.Words.{Words}
 use Rattle.words.specs.Words.{none, grown, ended, taken, takenAll, wordsOf}
 use Rattle.words.specs.Hex.{digitValue, isByte, byteOf}
+use Rattle.words.proofs.WordLaws.{Character, packed, reading, word-taken}
 use Rattle.steps.specs.Step.{names, legal, bytesOf}
 use Rattle.steps.specs.declared.Step.{Step}
 use Rattle.steps.specs.declared.Step.the-variants.{Set, Field, Colour}
 use Rattle.spelling.specs.Written.{letter, nameText, byteText, stepText}
 use Rattle.spelling.specs.Reading.{groupOf, indexed, nameOf, setOf, fieldOf, colourOf, stepOf, said, lineOf}
-use Rattle.spelling.specs.declared.Name.{Name}
-use Rattle.spelling.specs.declared.Name.the-variants.{Of, None}
-use Rattle.spelling.specs.declared.Line.{Line}
-use Rattle.spelling.specs.declared.Line.the-variants.{Pass, Is, Other}
+use Rattle.spelling.specs.declared.Name.the-variants.{Of}
+use Rattle.spelling.specs.declared.Line.the-variants.{Is}
 
 -- ---- characters
-abbrev reading : ℕ → ℕ → List ℕ → Words
-reading n w a = record { count = n; begun = w; at = a }
-
-character : (n w : ℕ) (a : List ℕ) (c : ℕ) → 0x21 ≤ c → c < 0x61 → (w ≡ 1 → ⊥) → w < 0x100000000000000 → taken (reading n w a) c ≡ reading n (256 * w + c) a
-unfolding taken grown
-character n w a c h k p q = rw (le-ltb c 0x21 h, ne-eqb w 1 p, lt-leb 0x100000000000000 w q, lt-ltb c 0x61 k)
-
 pub digit-range : (x : ℕ) → (0x30 ≤ lastDigit x) × (lastDigit x < 0x47)
 digit-range x = go (x % 16) (omega arith) (ltb (x % 16) 10) refl
   where
@@ -61,19 +53,14 @@ module _ (v : ℕ) (byte : v < 256) where
       let t = and-both (isByte (pair v)) (eqb (byteOf (pair v)) v) (every-at pairs 0 256 all-pairs v (omega arith) (omega arith)) in
       (t .0, eqb-true _ _ (t .1))
 
-module _ (n : ℕ) (a : List ℕ) (w : ℕ) (whole : w ≡ 1 → ⊥) (short : w < 0x10000000000) where
-  digits-taken : (v : ℕ) (r : List ℕ) → takenAll (reading n w a) (byteDigits v ++ r) ≡ takenAll (reading n (65536 * w + pair v) a) r
-  unfolding takenAll
-  digits-taken v r =
-      let h = digit-range (v / 16) in
-      let l = digit-range v in
-      let d : ℕ = lastDigit (v / 16) in
-      let e : ℕ = lastDigit v in
-      let first : taken (reading n w a) d ≡ reading n (256 * w + d) a = character n w a d (omega (arith, h .0)) (omega (arith, h .1)) whole (omega arith) in
-      let second : taken (reading n (256 * w + d) a) e ≡ reading n (256 * (256 * w + d) + e) a =
-      character n (256 * w + d) a e (omega (arith, l .0)) (omega (arith, l .1)) (λ z. omega (arith, h .0, z)) (omega (arith, h .1)) in
-      let sum : 256 * (256 * w + d) + e ≡ 65536 * w + pair v = omega arith in
-      ap (λ (s : Words). takenAll (taken s e) r) first ∙ ap (λ (s : Words). takenAll s r) (second ∙ ap (λ (x : ℕ). reading n x a) sum)
+digit-character : (x : ℕ) → Character (lastDigit x)
+digit-character x = let h = digit-range x in (omega (arith, h .0), omega (arith, h .1))
+
+digits-taken : (n : ℕ) (a : List ℕ) (v : ℕ) (r : List ℕ) → takenAll (reading n 0 a) (byteDigits v ++ r) ≡ takenAll (reading n (pair v) a) r
+digits-taken n a v r =
+    let sum : packed 0 (byteDigits v) ≡ pair v = omega arith in
+    word-taken n a (byteDigits v) 0 0 r (digit-character (v / 16), (digit-character v, tt)) (λ z. omega (arith, z)) (omega arith) (omega arith)
+    ∙ ap (λ (x : ℕ). takenAll (reading n x a) r) sum
 
 -- ---- the end of a word
 module _ (n w : ℕ) (a : List ℕ) (some : w ≡ 0 → ⊥) (room : n < 13) where
@@ -88,11 +75,7 @@ module _ (n w : ℕ) (a : List ℕ) (some : w ≡ 0 → ⊥) (room : n < 13) whe
 -- a byte behind the word that stands before it
 module _ (n w : ℕ) (a : List ℕ) (some : w ≡ 0 → ⊥) (room : n < 13) where
   byte-taken : (v : ℕ) (r : List ℕ) → takenAll (reading n w a) (byteText v ++ r) ≡ takenAll (reading (n + 1) (pair v) (set a n w)) r
-  byte-taken v r =
-      let sum : 65536 * 0 + pair v ≡ pair v = omega arith in
-      space-taken n w a some room (byteDigits v ++ r)
-      ∙ digits-taken (n + 1) (set a n w) 0 (λ z. omega (arith, z)) (omega arith) v r
-      ∙ ap (λ (x : ℕ). takenAll (reading (n + 1) x (set a n w)) r) sum
+  byte-taken v r = space-taken n w a some room (byteDigits v ++ r) ∙ digits-taken (n + 1) (set a n w) v r
 
 -- ---- a name
 abbrev nameWord : ℕ → ℕ → ℕ
@@ -135,14 +118,13 @@ module _ (n : ℕ) (a : List ℕ) (g i : ℕ) (group : g < 9) (r : List ℕ) whe
       indexed-taken : takenAll (reading n 0 a) (letter g ∷ 0x52 ∷ byteDigits i ++ r) ≡ takenAll (reading n (65536 * word + pair i) a) r
       indexed-taken =
           let l = letter-range g group in
-          let first : taken (reading n 0 a) (letter g) ≡ reading n (256 * 0 + letter g) a =
-          character n 0 a (letter g) (omega (arith, l .0)) (omega (arith, l .1)) (λ z. omega (arith, z)) (omega arith) in
-          let second : taken (reading n (256 * 0 + letter g) a) 0x52 ≡ reading n (256 * (256 * 0 + letter g) + 0x52) a =
-          character n (256 * 0 + letter g) a 0x52 (omega arith) (omega arith) (λ z. omega (arith, z, l .0)) (omega (arith, l .1)) in
-          let sum : 256 * (256 * 0 + letter g) + 0x52 ≡ word = omega arith in
-          ap (λ (s : Words). takenAll (taken s 0x52) (byteDigits i ++ r)) first
-          ∙ ap (λ (s : Words). takenAll s (byteDigits i ++ r)) (second ∙ ap (λ (x : ℕ). reading n x a) sum)
-          ∙ digits-taken n a word (λ z. omega (arith, z, l .0)) (omega (arith, l .1)) i r
+          let sum : packed 0 (letter g ∷ 0x52 ∷ byteDigits i) ≡ 65536 * word + pair i = omega arith in
+          word-taken n a (letter g ∷ 0x52 ∷ byteDigits i) 0 0 r
+          ((omega (arith, l .0), omega (arith, l .1)), ((omega arith, omega arith), (digit-character (i / 16), (digit-character i, tt))))
+          (λ z. omega (arith, z))
+          (omega arith)
+          (omega arith)
+          ∙ ap (λ (x : ℕ). takenAll (reading n x a) r) sum
 
       go : (x y : Bool)
           → takenAll (reading n 0 a)

@@ -1,7 +1,7 @@
 -- Laws of words that are numbers. A place more of a number; two capital digits, as text's `byteDigits` has them, read back as the byte.
 use Prim.Native.Nat.{ℕ, zero, suc, _+_, _-_, _*_, _/_, _%_}
 use native.Mathlib.Omega.{arith}
-use mathlib.Core.Bool.{Bool, true, false, _&&_}
+use mathlib.Core.Bool.{true, false, _&&_}
 use mathlib.Core.Path.{_≡_, refl, ap, _∙_}
 use borrow.Author.Tests.{ne-eqb}
 use Rattle.words.specs.Hex.{digitValue, isDigit, allDigits, valueIn}

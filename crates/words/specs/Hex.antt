@@ -1,8 +1,8 @@
 -- Words that are hexadecimal numbers, in either case since letters are capitals by now: a byte of exactly two digits, and a number of
 -- one to eight. Laws are proofs/HexLaws.
 use Prim.Native.Nat.{ℕ, zero, suc, _+_, _-_, _*_, _/_, _%_}
-use mathlib.Core.Bool.{Bool, true, cond, _&&_, _||_}
-use lib.Dec.{ltb, leb, eqb}
+use mathlib.Core.Bool.{Bool, cond, _&&_, _||_}
+use lib.Dec.{ltb, eqb}
 use Rattle.words.specs.declared.Number.{Number}
 use Rattle.words.specs.declared.Number.the-variants.{Of, Other}
 

@@ -1,5 +1,5 @@
 -- The loop's invariant: what is still to come from here is the whole answer.
-use Prim.Native.Nat.{_+_, _-_, _≤_}
+use Prim.Native.Nat.{_+_, _-_}
 use mathlib.Core.Bool.{true, false}
 use mathlib.Core.Path.{_≡_, sym, ap, _∙_}
 use native.Mathlib.Omega.{arith}
@@ -7,8 +7,6 @@ use denote.Ref.{now}
 use borrow.Author.Needs.{needs}
 use borrow.Author.Tests.{not-true, not-false}
 use lib.ListN.{length}
-use Rattle.spelling.specs.Reading.{lineOf}
-use Rattle.spelling.specs.declared.Line.{Line}
 use Rattle.composing.specs.Compose.{verdict}
 use Rattle.composing.specs.Working.{isFine}
 use Rattle.composing.specs.declared.Verdict.{Verdict}

@@ -1,6 +1,5 @@
 -- By the kind of line.
 use borrow.Author.Needs.{needs}
-use Rattle.composing.specs.Compose.{verdict}
 use Rattle.composing.proofs.judge.Statement.{statement}
 use Rattle.composing.proofs.judge.Tie as tie
 

@@ -1,5 +1,4 @@
 -- Legal and with room, legal and one too many, and not legal.
-use borrow.Author.Needs.{needs}
 use borrow.Author.Tests.{lt-ltb, le-ltb}
 use Rattle.composing.proofs.judge_step.Statement.{statement}
 use Rattle.composing.proofs.judge_step.Tie as tie

@@ -1,5 +1,4 @@
 -- The text lies within the buffer that it was put into.
-use Prim.Native.Nat.{_≤_}
 use mathlib.Core.Path.{sym, _∙_}
 use native.Mathlib.Omega.{arith}
 use borrow.Author.Needs.{needs}

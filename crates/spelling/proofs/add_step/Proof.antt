@@ -1,7 +1,6 @@
 -- No room, and room for the longest line.
 use native.Mathlib.Omega.{arith}
 use denote.Ref.{now}
-use lib.ListN.{length}
 use borrow.Author.Needs.{needs}
 use Rattle.text.proofs.Adding.{none-in, in-added, added-append}
 use Rattle.spelling.specs.Written.{stepLine}

@@ -1,5 +1,4 @@
 -- A line of the table each, and any other letters.
-use borrow.Author.Needs.{needs}
 use borrow.Author.Tests.{ne-eqb}
 use Rattle.spelling.specs.Reading.{groupOf}
 use Rattle.spelling.proofs.group_of.Statement.{statement}

@@ -1,5 +1,4 @@
 -- A group each, and no group.
-use borrow.Author.Needs.{needs}
 use borrow.Author.Tests.{ne-eqb}
 use Rattle.spelling.specs.Written.{letter}
 use Rattle.spelling.proofs.letter_of.Statement.{statement}

@@ -1,6 +1,5 @@
 -- A line that begins with `#`, and any other.
 use mathlib.Core.Path.{ap, _∙_}
-use denote.Ref.{now}
 use borrow.Author.Needs.{needs}
 use borrow.Author.Tests.{eq-eqb, ne-eqb}
 use Rattle.spelling.specs.Reading.{said, lineOf}
