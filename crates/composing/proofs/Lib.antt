@@ -1,4 +1,5 @@
 -- The laws of this crate: of lines (LineLaws). Gathering is for the proofs. The other folders have a function's proof each.
 pub mod LineLaws
 pub mod Gathering
+pub mod Answers
 pub mod SameFile

@@ -1,16 +1,15 @@
 -- Laws of the text. It fits where there is room for the longest, and 96,825 bytes are room for any; with 32,256 bytes for the commands it is a function of the file
 -- alone; bytes behind the first 6,145 change nothing, so that a program may stop reading there; and every port of a script has
 -- three digits.
-use Prim.Native.Nat.{ℕ, _-_, _*_, _≤_, _<_}
+use Prim.Native.Nat.{ℕ, _-_, _*_, _≤_}
 use native.Mathlib.Omega.{arith}
 use mathlib.Core.Bool.{Bool, true, false, cond, _&&_}
-use mathlib.Core.Path.{_≡_, refl, sym, ap, _∙_}
+use mathlib.Core.Path.{_≡_, refl}
 use mathlib.Core.List.{List, [], _∷_, _++_}
-use lib.Dec.{ltb, leb, eqb}
+use lib.Dec.{ltb, eqb}
 use lib.ListN.{length, take, length-append}
-use lib.Seq.{take-all, length-take-le}
-use borrow.Author.Tests.{le-ltb, ltb-false, leb-true, leb-false}
-use Rattle.lists.proofs.Tests.{units, of-cond}
+use borrow.Author.Tests.{le-ltb, ltb-false}
+use Rattle.lists.proofs.Tests.{of-cond}
 use Rattle.steps.specs.declared.Step.{Step}
 use Rattle.steps.specs.declared.Step.the-variants.{Set, Field, Colour}
 use Rattle.script.specs.File.{wholeBlocks, stepCount, checked}
@@ -19,7 +18,7 @@ use Rattle.script.specs.Numbers.{ofRefusal}
 use Rattle.script.specs.declared.Checked.{Checked}
 use Rattle.script.specs.declared.Checked.the-variants.{Accepted, Refused as NotAccepted}
 use Rattle.script.proofs.Checking.{Legal, answer-says, check-length}
-use Rattle.script.proofs.Counting.{accepted-few}
+use Rattle.script.proofs.Counting.{accepted-few, long-refused, start-decides}
 use Rattle.commands.specs.Expansion.{ways, setBy, fieldBy, expanded}
 use Rattle.commands.specs.Translation.{commandsTo, begins, ifRoom, translated}
 use Rattle.commands.specs.declared.Command.{Command}
@@ -109,23 +108,9 @@ text-long : (f : List ℕ) (work : ℕ) → wholeBlocks f ≡ false → text f w
 unfolding text translated
 text-long f work w = rw (check-length f w)
 
-long-refused : (f : List ℕ) → 6144 < length f → wholeBlocks f ≡ false
-long-refused f h = go (wholeBlocks f) refl
-  where
-    go : (b : Bool) → wholeBlocks f ≡ b → b ≡ false
-    go false e = refl
-    go true e = absurd (let u = units 512 12 (length f) e in omega (arith, u .even, u .few))
-
 -- reading may stop at 6,145 bytes
 pub text-start : (f : List ℕ) (work : ℕ) → text (take 6145 f) work ≡ text f work
-text-start f work = go (leb (length f) 6145) refl
-  where
-    go : (b : Bool) → leb (length f) 6145 ≡ b → text (take 6145 f) work ≡ text f work
-    go true e = ap (λ (l : List ℕ). text l work) (take-all 6145 f (leb-true _ _ e))
-    go false e =
-        let h : 6145 < length f = leb-false _ _ e in
-        let k : length (take 6145 f) ≡ 6145 = length-take-le 6145 f (omega arith) in
-        text-long (take 6145 f) work (long-refused (take 6145 f) (omega arith)) ∙ sym (text-long f work (long-refused f (omega arith)))
+text-start f work = start-decides (λ l. text l work) (refusal 8) (λ l h. text-long l work (long-refused l h)) f
 
 -- ---- the ports of a script's commands are below 1000h
 abbrev pub lowPort : Command → Bool

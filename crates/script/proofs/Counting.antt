@@ -1,18 +1,19 @@
 -- The number of steps of a file as arithmetic: it is small enough to count with, and an accepted file has 1
--- to 1,008 of them.
-use mathlib.Core.Path.{_≡_, sym, ap, _∙_}
+-- to 1,008 of them; and a file that is too long, which its first 6,145 bytes show.
+use mathlib.Core.Path.{_≡_, refl, sym, ap, _∙_}
 use mathlib.Core.List.{List}
 use mathlib.Core.Bool.{Bool, true, false, cond}
 use Prim.Native.Nat.{ℕ, _+_, _-_, _*_, _≤_, _<_}
 use native.Mathlib.Omega.{arith}
-use borrow.Author.Tests.{ne-eqb}
-use lib.Dec.{eqb}
-use lib.ListN.{length, getD}
+use borrow.Author.Tests.{ne-eqb, leb-true, leb-false}
+use lib.Dec.{leb, eqb}
+use lib.ListN.{length, getD, take}
+use lib.Seq.{take-all, length-take-le}
 use Rattle.lists.specs.Tab.{Bytes}
 use Rattle.lists.proofs.Parts.{getD-part}
 use Rattle.lists.proofs.Scan.{end-first}
 use Rattle.lists.proofs.Tests.{units}
-use Rattle.script.specs.File.{blocks, block, legalAt, stepCount, checked}
+use Rattle.script.specs.File.{wholeBlocks, blocks, block, legalAt, stepCount, checked}
 use Rattle.script.specs.declared.Checked.the-variants.{Accepted}
 use Rattle.script.proofs.Checking.{Legal, answer-says}
 use Rattle.script.proofs.Rules.{Rules, legal-rules, count-few}
@@ -48,3 +49,22 @@ module _ (f : List ℕ) (m : ℕ) (l : Legal f m) where
 
 pub accepted-few : (f : List ℕ) (m : ℕ) → checked f ≡ Accepted m → (1 ≤ m) × (m ≤ 1008)
 accepted-few f m acc = legal-few f m (answer-says f acc)
+
+-- ---- a file that is too long, of which 6,145 bytes are enough to see it
+pub long-refused : (f : List ℕ) → 6144 < length f → wholeBlocks f ≡ false
+long-refused f h = go (wholeBlocks f) refl
+  where
+    go : (b : Bool) → wholeBlocks f ≡ b → b ≡ false
+    go false e = refl
+    go true e = absurd (let u = units 512 12 (length f) e in omega (arith, u .even, u .few))
+
+-- whatever is the same for all files that are too long is the same of a file and of its first 6,145 bytes
+pub start-decides : {A : Type 0} (g : List ℕ → A) (x : A) → ((f : List ℕ) → 6144 < length f → g f ≡ x) → (f : List ℕ) → g (take 6145 f) ≡ g f
+start-decides {A} g x long f = go (leb (length f) 6145) refl
+  where
+    go : (b : Bool) → leb (length f) 6145 ≡ b → g (take 6145 f) ≡ g f
+    go true e = ap g (take-all 6145 f (leb-true _ _ e))
+    go false e =
+        let h : 6145 < length f = leb-false _ _ e in
+        let k : length (take 6145 f) ≡ 6145 = length-take-le 6145 f (omega arith) in
+        long (take 6145 f) (omega arith) ∙ sym (long f (omega arith))

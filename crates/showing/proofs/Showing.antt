@@ -6,7 +6,7 @@ use mathlib.Core.Bool.{Bool, true, false, cond}
 use mathlib.Core.Path.{_≡_, refl, _∙_}
 use mathlib.Core.List.{List, [], _++_}
 use lib.Dec.{ltb}
-use lib.ListN.{length, length-append}
+use lib.ListN.{length, take, length-append}
 use borrow.Author.Tests.{lt-ltb, le-ltb, ltb-false}
 use Rattle.text.specs.Adding.{Added}
 use Rattle.script.specs.File.{stepCount, checked}
@@ -14,10 +14,11 @@ use Rattle.script.specs.Reader.{nextOf}
 use Rattle.script.specs.declared.Checked.{Checked}
 use Rattle.script.specs.declared.Checked.the-variants.{Accepted, Refused as NotAccepted}
 use Rattle.script.specs.declared.Refusal.{Refusal}
-use Rattle.script.specs.declared.Refusal.the-variants.{Room}
+use Rattle.script.specs.declared.Refusal.the-variants.{Length, Room}
 use Rattle.script.specs.declared.Next.{Next}
 use Rattle.script.specs.declared.Next.the-variants.{Found, Refused as NoStep, End}
-use Rattle.script.proofs.Checking.{answer-says}
+use Rattle.script.proofs.Checking.{answer-says, check-length}
+use Rattle.script.proofs.Counting.{accepted-few, long-refused, start-decides}
 use Rattle.spelling.proofs.Lengths.{line-most}
 use Rattle.showing.specs.Show.{lineOfNext, textTo, textOf, shownBy, shown, leftBy}
 use Rattle.showing.specs.declared.Shown.the-variants.{Text, Refused}
@@ -44,6 +45,19 @@ unfolding textTo
 text-next f n = rw (add-one n)
 
 -- ---- the answers
+-- 20,160 bytes are room for the text of any file
+pub shown-whole : (f : List ℕ) (m room : ℕ) → checked f ≡ Accepted m → 20160 ≤ room → shown f room ≡ Text (length (textOf f))
+unfolding shown
+shown-whole f m room e h = rw (e, le-ltb room (20 * m) (omega (arith, accepted-few f m e .1)))
+
+-- reading may stop at 6,145 bytes
+shown-long : (f : List ℕ) (room : ℕ) → 6144 < length f → shown f room ≡ Refused Length
+unfolding shown
+shown-long f room h = rw (check-length f (long-refused f h))
+
+pub shown-start : (f : List ℕ) (room : ℕ) → shown (take 6145 f) room ≡ shown f room
+shown-start f room = start-decides (λ l. shown l room) (Refused Length) (λ l h. shown-long l room h) f
+
 -- the text lies within the output
 pub shown-within : (f : List ℕ) (room n : ℕ) → shown f room ≡ Text n → n ≤ room
 unfolding shown
