@@ -1,0 +1,19 @@
+-- Too little room, and room for the text.
+use native.Mathlib.Omega.{arith}
+use borrow.Author.Needs.{needs}
+use denote.Ref.{now}
+use Rattle.chip.specs.State.{named}
+use Rattle.dump.proofs.Room.{none-dumped, all-dumped}
+use Rattle.dump.proofs.dump.Statement.{statement}
+use Rattle.dump.proofs.dump.Tie as tie
+
+pub dump-spec : {M : Type 1} → statement M
+dump-spec =
+    tie.close
+    (tie.spec
+    (λ c. let a = c .before .before .args in none-dumped (now (a .out)) (a .at) (named (a .chip)) (omega arith))
+    (λ c. search needs)
+    (λ c. let a = c .before .before .before .args in none-dumped (now (a .out)) (a .at) (named (a .chip)) (omega arith))
+    (λ c κs. omega arith)
+    (λ c. search needs)
+    (λ c. let a = c .before .before .before .before .before .before .before .args in all-dumped (now (a .out)) (a .at) (named (a .chip)) (omega arith) (c .before .before .add-paragraphs .ensures)))

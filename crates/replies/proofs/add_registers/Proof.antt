@@ -1,0 +1,15 @@
+-- There is room: they stand there.
+use borrow.Author.Needs.{needs}
+use denote.Ref.{now}
+use Rattle.chip.specs.State.{named}
+use Rattle.replies.proofs.Room.{dumped-added}
+use Rattle.replies.proofs.add_registers.Statement.{statement}
+use Rattle.replies.proofs.add_registers.Tie as tie
+
+pub add-registers-spec : {M : Type 1} → statement M
+add-registers-spec =
+    tie.close
+    (tie.spec
+    (λ c κs. search needs)
+    (λ c. search needs)
+    (λ c. let a = c .before .before .before .before .before .args in dumped-added (now (a .out)) (a .at) (named (a .chip)) (c .before .before .before .before .before .pre) (c .before .before .dump .ensures .0) (c .before .before .dump .ensures .1)))

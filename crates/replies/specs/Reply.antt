@@ -1,0 +1,45 @@
+-- The text of an answer: a line, with a line feed at its end, or all registers. A number is decimal, and bytes are two capital
+-- hexadecimal digits each. It goes where 8,192 bytes are left, the room that all registers ask for; with less nothing changes. That
+-- no answer is longer, and worked answers, are proofs/ReplyLaws.
+use Prim.Native.Nat.{ℕ, _+_}
+use mathlib.Core.Bool.{Bool, cond}
+use mathlib.Core.List.{List, [], _∷_, _++_}
+use lib.Dec.{leb}
+use lib.ListN.{length}
+use Rattle.lists.specs.Put.{put}
+use Rattle.text.specs.Digits.{byteDigits, decimalIn}
+use Rattle.chip.specs.State.{Named}
+use Rattle.dump.specs.Text.{dumped}
+use Rattle.replies.specs.declared.Reply.{Reply}
+use Rattle.replies.specs.declared.Reply.the-variants.{Number, Byte, Colour, Registers, Unknown}
+
+-- a number of up to three digits: every byte has no more
+abbrev pub numberText : ℕ → List ℕ
+numberText n = decimalIn 3 n
+
+-- a space and a byte
+abbrev pub spaced : ℕ → List ℕ
+spaced v = 0x20 ∷ byteDigits v
+
+abbrev pub lineFeed : List ℕ
+lineFeed = 0x0A ∷ []
+
+-- `0`, `0 43`, `0 FC 00 54`, all registers, and `?`
+unfoldable pub replyText : Named → Reply → List ℕ
+replyText n (Number k) = numberText k ++ lineFeed
+replyText n (Byte k v) = numberText k ++ spaced v ++ lineFeed
+replyText n (Colour red green blue) = 0x30 ∷ spaced red ++ spaced green ++ spaced blue ++ lineFeed
+replyText n Registers = dumped n
+replyText n Unknown = 0x3F ∷ lineFeed
+
+-- room for any of them
+abbrev pub roomy : List ℕ → ℕ → Bool
+roomy out at = leb (at + 8192) (length out)
+
+-- what an output then holds
+unfoldable pub withReply : List ℕ → ℕ → Named → Reply → List ℕ
+withReply out at n r = cond (roomy out at) (put out at (replyText n r)) out
+
+-- where the next byte goes
+unfoldable pub behindReply : List ℕ → ℕ → Named → Reply → ℕ
+behindReply out at n r = cond (roomy out at) (at + length (replyText n r)) at

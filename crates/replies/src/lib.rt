@@ -1,0 +1,116 @@
+// The text of an answer of the workbench, put into a lent output: a number, a byte, a colour, all registers, or that the
+// line was not known. The definition is specs/Reply; all registers are the crate dump's, and digits the crate text's.
+ghost use mathlib.Core.Path.{_≡_};
+ghost use Prim.Native.Nat.{_+_, _≤_};
+ghost use lib.ListN.{length};
+ghost use Rattle.chip.specs.State.{named};
+ghost use Rattle.text.specs.Adding.{Added};
+ghost use Rattle.dump.specs.Text.{dumped};
+ghost use Rattle.replies.specs.Reply.{numberText, replyText, withReply, behindReply};
+use chip::Chip;
+use dump::dump;
+use text::digit;
+
+// An answer.
+pub enum Reply {
+    // A number: 0 where it was done, else why not.
+    Number(u8),
+    // A number and a byte.
+    Byte(u8, u8),
+    // Red, green and blue.
+    Colour(u8, u8, u8),
+    // All registers.
+    Registers,
+    // The line was not known.
+    Unknown,
+}
+
+// Bytes behind those that stand in an output that has room for them; where the next one goes.
+fn add(out: &mut [u8], at: usize, bytes: &[u8]) -> usize
+    requires { ⌜ at + length (now bytes) ≤ length (now out) ⌝ }
+    ensures { λ r. ⌜ Added (now (out .entry)) at (now (bytes .entry)) (now (out .exit)) r ⌝ }
+{
+    text::add(out, at, bytes)
+}
+
+// A number in decimal.
+fn add_number(out: &mut [u8], at: usize, n: u8) -> usize
+    requires { ⌜ at + 3 ≤ length (now out) ⌝ }
+    ensures { λ r. ⌜ Added (now (out .entry)) at (numberText n) (now (out .exit)) r ⌝ }
+    ensures { λ r. ⌜ r ≤ at + 3 ⌝ }
+{
+    if n < 10 {
+        return add(out, at, &[0x30 + n]);
+    }
+    if n < 100 {
+        return add(out, at, &[0x30 + n / 10, 0x30 + n % 10]);
+    }
+    add(
+        out,
+        at,
+        &[0x30 + n / 10 / 10, 0x30 + n / 10 % 10, 0x30 + n % 10],
+    )
+}
+
+// All registers.
+fn add_registers(chip: Chip, out: &mut [u8], at: usize) -> usize
+    requires { ⌜ at + 8192 ≤ length (now out) ⌝ }
+    ensures { λ r. ⌜ Added (now (out .entry)) at (dumped (named chip)) (now (out .exit)) r ⌝ }
+{
+    dump(chip, out, at)
+}
+
+// The text of an answer.
+fn add_reply(chip: Chip, reply: Reply, out: &mut [u8], at: usize) -> usize
+    requires { ⌜ at + 8192 ≤ length (now out) ⌝ }
+    ensures { λ r. ⌜ Added (now (out .entry)) at (replyText (named chip) reply) (now (out .exit)) r ⌝ }
+{
+    match reply {
+        Reply::Number(k) => {
+            let end = add_number(out, at, k);
+            add(out, end, b"\n")
+        }
+        Reply::Byte(k, value) => {
+            let end = add_number(out, at, k);
+            let v = value as u16;
+            let text = [b' ', digit(v / 16), digit(v), b'\n'];
+            add(out, end, &text)
+        }
+        Reply::Colour(red, green, blue) => {
+            let r = red as u16;
+            let g = green as u16;
+            let b = blue as u16;
+            let text = [
+                b'0',
+                b' ',
+                digit(r / 16),
+                digit(r),
+                b' ',
+                digit(g / 16),
+                digit(g),
+                b' ',
+                digit(b / 16),
+                digit(b),
+                b'\n',
+            ];
+            add(out, at, &text)
+        }
+        Reply::Registers => add_registers(chip, out, at),
+        Reply::Unknown => add(out, at, b"?\n"),
+    }
+}
+
+// The text of an answer, at a place of an output that has 8,192 bytes from there on; where the next byte goes. With less
+// room nothing changes.
+pub fn print(chip: Chip, reply: Reply, out: &mut [u8], at: usize) -> usize
+    ensures { λ r. ⌜ r ≡ behindReply (now (out .entry)) at (named chip) reply ⌝ }
+    ensures { λ r. ⌜ now (out .exit) ≡ withReply (now (out .entry)) at (named chip) reply ⌝ }
+{
+    if out.len() < at {
+        return at;
+    }
+    if out.len() - at < 8192 {
+        return at;
+    }
+    add_reply(chip, reply, out, at)
+}
