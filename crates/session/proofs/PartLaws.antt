@@ -1,14 +1,14 @@
 -- Input in parts is the same as in one: bytes taken behind others, and bytes fed behind others that found room; and the bytes that were
 -- fed are the first ones, each taken once.
-use Prim.Native.Nat.{ℕ, suc, _+_, _-_, _≤_}
+use Prim.Native.Nat.{ℕ, suc, _+_, _-_, _≤_, _<_}
 use mathlib.Core.Path.{_≡_, refl, sym, ap, _∙_}
 use mathlib.Core.Bool.{Bool, true, false}
 use mathlib.Core.List.{List, [], _∷_, _++_}
 use native.Mathlib.Numerals.{add-one}
 use native.Mathlib.Nat.{add-zero}
 use native.Mathlib.Omega.{arith}
-use lib.ListN.{length, take}
-use lib.Seq.{take-nil}
+use lib.ListN.{length, take, drop, getD}
+use lib.Seq.{take-nil, drop-cons}
 use Rattle.session.specs.Desk.{Sitting, Place, place, roomIn, taken, takenAll, fed}
 
 module _ (most : ℕ) where
@@ -41,6 +41,13 @@ module _ (most : ℕ) where
     unfolding fed
     fed-behind s i [] = omega arith
     fed-behind s i (c ∷ cs) = behind-by s i c cs (roomIn size s) refl (fed-behind (taken most s c) (i + 1) cs)
+
+    -- by one byte at the least, where there is one and room for a reply
+    pub fed-moves : (s : Sitting) (i : ℕ) (bytes : List ℕ) → i < length bytes → roomIn size s ≡ true → i < fed most size s i (drop i bytes) .from
+    fed-moves s i bytes h e =
+        let t : Sitting = taken most s (getD bytes i 0) in
+        let k : i + 1 ≤ fed most size t (i + 1) (drop (suc i) bytes) .from = fed-behind t (i + 1) (drop (suc i) bytes) in
+        rw (drop-cons bytes i 0 h, fed-room s i (getD bytes i 0) (drop (suc i) bytes) e) (omega (arith, k))
 
     -- ---- the bytes before it were taken
     abbrev First : Sitting → ℕ → List ℕ → Type 0

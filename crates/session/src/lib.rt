@@ -30,7 +30,7 @@ pub struct Acted {
 }
 
 // How many bytes the memory has in a store of this size.
-pub(crate) fn shorter_of(lent: usize, size: usize) -> usize
+pub fn shorter_of(lent: usize, size: usize) -> usize
     ensures { λ r. ⌜ (r ≡ shorter lent size) × (r ≤ size) ⌝ }
 {
     if lent < size { lent } else { size }
