@@ -6,18 +6,10 @@ ghost use mathlib.Core.Path.{_≡_};
 ghost use mathlib.Core.Bool.{cond, true, false};
 ghost use Prim.Native.Nat.{ℕ, _+_, _-_, _*_, _%_, _^_, _<_, _≤_};
 ghost use lib.Dec.{ltb};
-ghost use Rattle.blit.specs.Memory.{lengthAllowed};
 ghost use Rattle.blit.specs.Transfer.{inRange, inMemory, everyByte, within, patternLine, patternPlace};
 ghost use Rattle.blit.specs.Working.{Ranges, moved, lineLow, Missing};
 use crate::Area;
 use crate::Transfer;
-
-// Number 3 is for any other length.
-pub(crate) fn length_allowed(n: usize) -> bool
-    ensures { λ r. ⌜ r ≡ lengthAllowed n ⌝ }
-{
-    (4096 <= n) & (n <= 2_097_152) & (n % 4 == 0)
-}
 
 // Number 5 is for a transfer that is not.
 pub(crate) fn in_range(t: Transfer) -> bool

@@ -4,7 +4,7 @@
 // Whether a transfer is in memory is worked out in `bounds`, its lines are done in `lines`.
 
 ghost use mathlib.Core.Path.{_≡_};
-ghost use Rattle.blit.specs.Memory.{refusalNumber, answerNumber, byteRead, writeAnswer, byteWritten};
+ghost use Rattle.blit.specs.Memory.{refusalNumber, answerNumber, lengthAllowed, byteRead, writeAnswer, byteWritten};
 ghost use Rattle.blit.specs.Transfer.{transferAnswer, transferred};
 
 mod bounds;
@@ -68,11 +68,18 @@ pub fn answer_number(a: Answer) -> u8
     0
 }
 
+// Whether a memory may be so long: number 3 is for any other length.
+pub fn length_allowed(n: usize) -> bool
+    ensures { λ r. ⌜ r ≡ lengthAllowed n ⌝ }
+{
+    (4096 <= n) & (n <= 2_097_152) & (n % 4 == 0)
+}
+
 // The byte at a place of the memory.
 pub fn read_byte(mem: &[u8], at: usize) -> Read
     ensures { λ r. ⌜ r ≡ byteRead (now (mem .entry)) at ⌝ }
 {
-    if !bounds::length_allowed(mem.len()) {
+    if !length_allowed(mem.len()) {
         return Read::Unread(Refusal::Length);
     }
     if at < mem.len() {
@@ -86,7 +93,7 @@ pub fn write_byte(mem: &mut [u8], at: usize, v: u8) -> Answer
     ensures { λ r. ⌜ r ≡ writeAnswer (now (mem .entry)) at ⌝ }
     ensures { λ r. ⌜ now (mem .exit) ≡ byteWritten (now (mem .entry)) at v ⌝ }
 {
-    if !bounds::length_allowed(mem.len()) {
+    if !length_allowed(mem.len()) {
         return Answer::Refused(Refusal::Length);
     }
     if at < mem.len() {
@@ -101,7 +108,7 @@ pub fn block_transfer(mem: &mut [u8], t: Transfer) -> Answer
     ensures { λ r. ⌜ r ≡ transferAnswer (now (mem .entry)) t ⌝ }
     ensures { λ r. ⌜ now (mem .exit) ≡ transferred (now (mem .entry)) t ⌝ }
 {
-    if !bounds::length_allowed(mem.len()) {
+    if !length_allowed(mem.len()) {
         return Answer::Refused(Refusal::Length);
     }
     if !bounds::in_range(t) {

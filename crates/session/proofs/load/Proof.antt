@@ -1,0 +1,20 @@
+-- The callee is lent the memory.
+use borrow.Author.Needs.{needs}
+use denote.Ref.{now}
+use lib.Seq.{length-take-le}
+use mathlib.Core.Path.{sym}
+use Rattle.session.proofs.StoreLaws.{take-shorter}
+use Rattle.session.proofs.load.Statement.{statement}
+use Rattle.session.proofs.load.Tie as tie
+
+pub load-spec : {M : Type 1} → statement M
+load-spec =
+    tie.close
+    (tie.spec
+    (λ c κs. search needs)
+    (λ c. sym (length-take-le _ (now (c .before .before .before .args .store)) (c .before .shorter-of .ensures .1)))
+    (λ c κs. search needs)
+    (λ c κs. search needs)
+    (λ c. let a = c .before .before .before .before .before .args in
+    let e = take-shorter (a .b .lent) (now (a .store)) (c .before .before .before .shorter-of .ensures .0) in
+    rw (← e, ← c .before .read-byte .ensures) (c .seen .ensures)))

@@ -1,0 +1,28 @@
+-- The text is the part of the output that is printed; and with room for a reply at least one byte is taken.
+use mathlib.Core.Path.{_≡_, sym, ap}
+use borrow.Author.Needs.{needs}
+use borrow.Author.Tests.{le-leb}
+use denote.Ref.{now}
+use lib.ListN.{length}
+use lib.Seq.{length-take-le}
+use Rattle.session.specs.Desk.{Place, sitting}
+use Rattle.session.proofs.PartLaws.{fed-moves}
+use Rattle.workbench.proofs.part.Statement.{statement}
+use Rattle.workbench.proofs.part.Tie as tie
+
+pub part-spec : {M : Type 1} → statement M
+part-spec =
+    tie.close
+    (tie.spec
+    (λ c κs. search needs)
+    (λ c κs. search needs)
+    (λ c. search needs)
+    (λ c. sym (length-take-le _ (c .before .before .before .before .before .before .before .before .feed .last .1 .1 .1 .0) (c .before .shorter-of .ensures .1)))
+    (λ c κs. search needs)
+    (λ c. search needs)
+    (λ c. search needs)
+    (λ c. search needs)
+    (λ c. let a = c .before .before .before .before .before .before .before .before .before .before .before .before .before .before .before .before .before .before .args in
+    let s = sitting (a .d .bench) (now (a .store)) (now (a .line)) (a .d .size) (now (a .out)) 0 in
+    let e = ap (λ (p : Place). p .from) (c .before .before .before .before .before .before .before .before .before .feed .ensures) in
+    rw e (fed-moves (length (now (a .line))) (length (now (a .out))) s (a .from) (now (a .bytes)) (c .before .before .before .before .before .before .before .before .before .before .before .before .before .before .before .before .before .before .pre .1) (le-leb _ _ (c .before .before .before .before .before .before .before .before .before .before .before .before .before .before .before .before .before .before .pre .0)))))

@@ -1,0 +1,134 @@
+// Answers requests to a chip that it reads from standard input, one a line: the replies go to standard output, in the order of the
+// lines. It begins after a reset with pin bytes FFh, and with 2,097,152 bytes of memory, all of them 0. What a line asks for
+// is the crate requests', what it does the crate session's, and the text of a reply the crate replies'. Replies are printed
+// where a piece of input ends, and where their text leaves no room for another. A last line needs no line feed.
+ghost use Prim.Native.Nat.{_<_, _≤_};
+ghost use lib.ListN.{length};
+use chip::Chip;
+use libc::STDIN_FILENO;
+use libc::STDOUT_FILENO;
+use session::Bench;
+use session::desk::Desk;
+use session::desk::Fed;
+use session::desk::feed;
+use session::shorter_of;
+
+// The desk after a piece of input, and whether there may be more.
+struct After {
+    more: bool,
+    desk: Desk,
+}
+
+// Bytes of input from a place on, as many as there is room for replies; the replies are printed.
+fn part(
+    d: Desk,
+    store: &mut [u8],
+    line: &mut [u8],
+    out: &mut [u8],
+    bytes: &[u8],
+    from: usize,
+) -> Fed
+    requires { ⌜ (8192 ≤ length (now out)) × (from < length (now bytes)) ⌝ }
+    ensures { λ r. ⌜ from < r .from ⌝ }
+{
+    let bench = d.bench;
+    let begun = Desk {
+        bench,
+        size: d.size,
+        next: 0,
+    };
+    let f = feed(begun, store, line, out, bytes, from);
+    let n = shorter_of(f.desk.next, out.len());
+    io::write_all(STDOUT_FILENO, &out[..n]);
+    f
+}
+
+// All bytes of a piece of input.
+fn piece(d: Desk, store: &mut [u8], line: &mut [u8], out: &mut [u8], bytes: &[u8]) -> Desk
+    requires { ⌜ 8192 ≤ length (now out) ⌝ }
+{
+    let mut desk = d;
+    let mut from = 0;
+    while from < bytes.len() {
+        let f = part(desk, store, line, out, bytes, from);
+        let next = f.desk;
+        desk = next;
+        from = f.from;
+    }
+    desk
+}
+
+// One read, and what came of it.
+fn turn(d: Desk, store: &mut [u8], line: &mut [u8], out: &mut [u8], buf: &mut [u8]) -> After
+    requires { ⌜ 8192 ≤ length (now out) ⌝ }
+{
+    let got = libc::read(STDIN_FILENO, buf);
+    let n = io::count(got, buf);
+    if n == 0 {
+        return After {
+            more: false,
+            desk: d,
+        };
+    }
+    let desk = piece(d, store, line, out, &buf[..n]);
+    After { more: true, desk }
+}
+
+// All of the input; turns run out after 2^64 reads.
+fn pieces(d: Desk, store: &mut [u8], line: &mut [u8], out: &mut [u8], buf: &mut [u8]) -> Desk
+    requires { ⌜ 8192 ≤ length (now out) ⌝ }
+{
+    let mut desk = d;
+    let mut turns = u64::MAX;
+    while turns > 0 {
+        let t = turn(desk, store, line, out, buf);
+        let next = t.desk;
+        desk = next;
+        if !t.more {
+            return desk;
+        }
+        turns -= 1;
+    }
+    desk
+}
+
+// A last line that has no line feed is answered as if it had one.
+fn end(d: Desk, store: &mut [u8], line: &mut [u8], out: &mut [u8])
+    requires { ⌜ 8192 ≤ length (now out) ⌝ }
+{
+    if d.size == 0 {
+        return;
+    }
+    piece(d, store, line, out, b"\n");
+}
+
+// The whole of a session, with all of the store lent.
+fn work(store: &mut [u8], line: &mut [u8], out: &mut [u8], buf: &mut [u8]) {
+    if out.len() < 8192 {
+        return;
+    }
+    let chip = Chip::new(0xFF, 0xFF);
+    let bench = Bench {
+        chip,
+        lent: store.len(),
+    };
+    let begun = Desk {
+        bench,
+        size: 0,
+        next: 0,
+    };
+    let last = pieces(begun, store, line, out, buf);
+    end(last, store, line, out);
+}
+
+fn lend(store: &mut [u8; 2097152], line: &mut [u8], out: &mut [u8], buf: &mut [u8]) {
+    work(store, line, out, buf);
+}
+
+fn main() {
+    let mut store = [0u8; 2097152];
+    let mut line = [0u8; 256];
+    let mut out = io::large_buffer();
+    let mut buf = io::large_buffer();
+    lend(&mut store, &mut line, &mut out, &mut buf);
+}
