@@ -1,7 +1,7 @@
 -- What a request does to the bench and to the store, and what it replies. The bench is a chip and the number of bytes that are lent;
 -- the memory is the first bytes of the store, so many as are lent, or all of it where it is shorter. Only `Lend`, `Write` and `Block`
--- change the store, and none of them a byte behind the bytes that they are about. The numbers are document 01's, "Numbers returned"; what an
--- access and a transfer do is said in the crates chip and blit.
+-- change the store, and no byte behind the memory. The numbers are document 01's, "Numbers returned"; what an access to a port and
+-- an access to memory do is said in the crates chip and blit.
 use Prim.Native.Nat.{ℕ}
 use mathlib.Core.Bool.{Bool, cond, _&&_}
 use mathlib.Core.List.{List, _++_}
@@ -46,7 +46,7 @@ memory lent store = take lent store
 abbrev pub withMemory : ℕ → List ℕ → List ℕ → List ℕ
 withMemory lent store m = m ++ drop lent store
 
--- how many bytes it has
+-- how many of the first bytes there are in a list of this size
 abbrev pub shorter : ℕ → ℕ → ℕ
 shorter lent size = cond (ltb lent size) lent size
 

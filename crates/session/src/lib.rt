@@ -9,7 +9,8 @@ ghost use Rattle.chip.specs.Access.{portWritten, portRead};
 ghost use Rattle.chip.specs.Palette.{shown};
 ghost use Rattle.blit.specs.Memory.{answerNumber, byteRead, writeAnswer, byteWritten};
 ghost use Rattle.blit.specs.Transfer.{transferAnswer, transferred};
-ghost use Rattle.session.specs.Session.{memory, withMemory, shorter, cleared, afterReset, afterOut, afterIn, afterPixel, afterLend, lentFrom, afterRead, acted, storeAfter};
+ghost use Rattle.session.specs.Session.{memory, withMemory, shorter, cleared, lentFrom, acted, storeAfter};
+ghost use Rattle.session.specs.Session.{afterReset, afterOut, afterIn, afterPixel, afterLend, afterRead};
 use blit::Transfer;
 use chip::Chip;
 use replies::Reply;
@@ -29,7 +30,7 @@ pub struct Acted {
     pub reply: Reply,
 }
 
-// How many bytes the memory has in a store of this size.
+// How many of the first `lent` bytes there are in bytes of this size: all of them where it has fewer.
 pub fn shorter_of(lent: usize, size: usize) -> usize
     ensures { λ r. ⌜ (r ≡ shorter lent size) × (r ≤ size) ⌝ }
 {
