@@ -1,20 +1,19 @@
 -- Laws of the desk: a byte kept, a line answered, and one turn of the input's loop in each of its ways: what is still to come from
 -- here is the whole of it.
-use Prim.Native.Nat.{ℕ, suc, _+_, _≤_, _<_}
-use mathlib.Core.Path.{_≡_, refl, sym, ap, _∙_}
+use Prim.Native.Nat.{ℕ, _+_, _≤_, _<_}
+use mathlib.Core.Path.{_≡_, refl, ap, _∙_}
 use mathlib.Core.Bool.{Bool, true, false}
-use mathlib.Core.List.{List, [], _∷_, _++_}
+use mathlib.Core.List.{List, _++_}
 use native.Mathlib.Numerals.{add-one}
 use native.Mathlib.Omega.{arith}
 use lib.Dec.{leb}
 use lib.ListN.{length, take, drop, getD, set, length-append, drop-of-length-le}
 use lib.Seq.{take-suc-set, length-take-le, take-all, take-at, drop-cons}
-use borrow.Author.Tests.{lt-ltb, le-ltb, le-leb, lt-leb, leb-true, leb-false, eq-eqb, ne-eqb}
+use borrow.Author.Tests.{lt-ltb, le-ltb, lt-leb, leb-true, leb-false, eq-eqb, ne-eqb}
 use Rattle.lists.specs.Put.{put}
 use Rattle.replies.specs.Reply.{withReply, behindReply}
-use Rattle.session.specs.Desk.{Sitting, Place, place, kept, roomIn, lineDone, taken, takenAll, fed, sitting, lineActed, storeLeft, textOf, answeredIn, outLeft}
+use Rattle.session.specs.Desk.{Sitting, place, kept, roomIn, lineDone, taken, fed, sitting, lineActed, storeLeft, textOf, answeredIn, outLeft}
 use Rattle.session.specs.declared.Bench.{Bench}
-use Rattle.session.specs.declared.Acted.{Acted}
 use Rattle.session.specs.declared.desk.Answered.{Answered}
 
 -- ---- a byte kept

@@ -2,7 +2,7 @@
 -- of input: the bench, the store, the line so far, of which no more bytes are kept than there is room for, and the text of the
 -- replies so far. A line feed has the line answered, any other byte goes behind the line. Input is fed while any reply has room
 -- behind the text. That input in parts is the same as in one is proofs/PartLaws.
-use Prim.Native.Nat.{ℕ, suc, _+_}
+use Prim.Native.Nat.{ℕ, _+_}
 use mathlib.Core.Bool.{Bool, cond}
 use mathlib.Core.List.{List, [], _∷_, _++_}
 use lib.Dec.{ltb, leb, eqb}

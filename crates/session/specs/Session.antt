@@ -18,7 +18,6 @@ use Rattle.chip.specs.declared.access.Seen.{Seen}
 use Rattle.blit.specs.Memory.{lengthAllowed, answerNumber, readNumber, readValue, byteRead, writeAnswer, byteWritten}
 use Rattle.blit.specs.Transfer.{transferAnswer, transferred}
 use Rattle.blit.specs.declared.Read.{Read as ByteRead}
-use Rattle.blit.specs.declared.Transfer.{Transfer}
 use Rattle.requests.specs.declared.Request.{Request}
 use Rattle.requests.specs.declared.Request.the-variants.{Reset, Out, In, Pixel, Lend, Read, Write, Block, Dump, Unknown}
 use Rattle.replies.specs.declared.Reply.{Reply}

@@ -2,8 +2,6 @@
 use borrow.Author.Needs.{needs}
 use native.Mathlib.Omega.{arith}
 use denote.Ref.{now}
-use Prim.Native.Nat.{_+_, _≤_, _<_}
-use lib.ListN.{length}
 use Rattle.chip.specs.State.{named}
 use Rattle.replies.proofs.Room.{none-replied, all-replied}
 use Rattle.replies.proofs.print.Statement.{statement}

@@ -1,5 +1,4 @@
 -- By the request.
-use mathlib.Core.Path.{refl}
 use borrow.Author.Needs.{needs}
 use Rattle.session.specs.Session.{acted, storeAfter}
 use Rattle.session.proofs.act.Statement.{statement}

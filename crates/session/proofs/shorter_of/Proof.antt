@@ -1,6 +1,5 @@
 -- Lent less than there is, or all of it.
 use native.Mathlib.Omega.{arith}
-use borrow.Author.Needs.{needs}
 use borrow.Author.Tests.{lt-ltb, le-ltb}
 use Rattle.session.proofs.shorter_of.Statement.{statement}
 use Rattle.session.proofs.shorter_of.Tie as tie

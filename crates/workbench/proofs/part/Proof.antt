@@ -1,5 +1,5 @@
 -- The text is the part of the output that is printed; and with room for a reply at least one byte is taken.
-use mathlib.Core.Path.{_≡_, sym, ap}
+use mathlib.Core.Path.{sym, ap}
 use borrow.Author.Needs.{needs}
 use borrow.Author.Tests.{le-leb}
 use denote.Ref.{now}

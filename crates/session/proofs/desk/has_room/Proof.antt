@@ -1,7 +1,6 @@
 -- None behind the end, too little, and enough.
 use Prim.Native.Nat.{_+_, _≤_, _<_}
 use native.Mathlib.Omega.{arith}
-use borrow.Author.Needs.{needs}
 use borrow.Author.Tests.{le-leb, lt-leb}
 use Rattle.session.proofs.desk.has_room.Statement.{statement}
 use Rattle.session.proofs.desk.has_room.Tie as tie
