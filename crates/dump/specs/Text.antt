@@ -2,12 +2,10 @@
 -- line. An indexed group has a line for each sixteen indexes of which at least one is listed, in ascending order; MSR and PALMASK have
 -- one line each. The text is made of what has a name alone, so it is the same whatever the indexes and the palette's loading state
 -- are. How long it is, where a register's digits stand, and that it tells every listed register are laws: proofs/Lengths, Places, Telling.
+-- It is put where 8,192 bytes are left (`withAddedIn` and `behindIn` of the crate text).
 use Prim.Native.Nat.{ℕ, zero, suc, _+_, _*_}
 use mathlib.Core.Bool.{Bool, true, false, cond, _||_}
 use mathlib.Core.List.{List, [], _∷_, _++_}
-use lib.Dec.{leb}
-use lib.ListN.{length}
-use Rattle.lists.specs.Put.{put}
 use Rattle.registers.specs.Groups.{groupAt, isIndexed, rowOf}
 use Rattle.registers.specs.declared.Group.{Group}
 use Rattle.registers.specs.declared.Row.{Row}
@@ -43,15 +41,3 @@ paragraphsTo n k = joined (λ (j : ℕ). paragraph (groupAt j) n) k
 -- all registers: the groups are those of the numbers 0 to 8
 abbrev pub dumped : Named → List ℕ
 dumped n = paragraphsTo n 9
-
--- there is room for the text: 8,192 bytes from a place on
-abbrev pub roomy : List ℕ → ℕ → Bool
-roomy out at = leb (at + 8192) (length out)
-
--- what an output then holds: with less room nothing changes
-unfoldable pub withDumped : List ℕ → ℕ → Named → List ℕ
-withDumped out at n = cond (roomy out at) (put out at (dumped n)) out
-
--- where the next byte goes
-unfoldable pub behindDumped : List ℕ → ℕ → Named → ℕ
-behindDumped out at n = cond (roomy out at) (at + length (dumped n)) at

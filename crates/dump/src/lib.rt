@@ -6,9 +6,9 @@ ghost use Prim.Native.Nat.{_+_, _≤_};
 ghost use lib.ListN.{length};
 ghost use Rattle.registers.specs.Groups.{groupAt, isIndexed, rowOf};
 ghost use Rattle.chip.specs.State.{named};
-ghost use Rattle.text.specs.Adding.{Added};
+ghost use Rattle.text.specs.Adding.{Added, withAddedIn, behindIn};
 ghost use Rattle.dump.specs.Line.{letters, cell, cellsTo, lineOfOne};
-ghost use Rattle.dump.specs.Text.{isListed, anyListed, lineAt, linesTo, paragraph, dumped, withDumped, behindDumped};
+ghost use Rattle.dump.specs.Text.{isListed, anyListed, lineAt, linesTo, paragraph, dumped};
 use chip::Chip;
 use registers::Group;
 use registers::Row;
@@ -198,8 +198,8 @@ fn add_paragraphs(chip: Chip, out: &mut [u8], from: usize) -> usize
 // All registers by name, at a place of an output that has 8,192 bytes from there on; where the next byte goes. With
 // less room nothing changes.
 pub fn dump(chip: Chip, out: &mut [u8], at: usize) -> usize
-    ensures { λ r. ⌜ r ≡ behindDumped (now (out .entry)) at (named chip) ⌝ }
-    ensures { λ r. ⌜ now (out .exit) ≡ withDumped (now (out .entry)) at (named chip) ⌝ }
+    ensures { λ r. ⌜ r ≡ behindIn 8192 (now (out .entry)) at (dumped (named chip)) ⌝ }
+    ensures { λ r. ⌜ now (out .exit) ≡ withAddedIn 8192 (now (out .entry)) at (dumped (named chip)) ⌝ }
 {
     if out.len() < at {
         return at;

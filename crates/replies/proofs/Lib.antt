@@ -1,4 +1,3 @@
--- The laws of this crate: what the output holds, with room and without (Room), and of the text (ReplyLaws). The other folders have a
+-- The laws of this crate: of the text (ReplyLaws). The other folders have a
 -- function's proof each.
-pub mod Room
 pub mod ReplyLaws

@@ -1,12 +1,8 @@
 -- The text of an answer: a line, with a line feed at its end, or all registers. A number is decimal, and bytes are two capital
--- hexadecimal digits each. It goes where 8,192 bytes are left, the room that all registers ask for; with less nothing changes. That
--- no answer is longer, and worked answers, are proofs/ReplyLaws.
+-- hexadecimal digits each. It goes where 8,192 bytes are left, the room that all registers ask for; with less nothing changes
+-- (`withAddedIn` and `behindIn` of the crate text). That no answer is longer, and worked answers, are proofs/ReplyLaws.
 use Prim.Native.Nat.{ℕ, _+_}
-use mathlib.Core.Bool.{Bool, cond}
 use mathlib.Core.List.{List, [], _∷_, _++_}
-use lib.Dec.{leb}
-use lib.ListN.{length}
-use Rattle.lists.specs.Put.{put}
 use Rattle.text.specs.Digits.{byteDigits, decimalIn}
 use Rattle.chip.specs.State.{Named}
 use Rattle.dump.specs.Text.{dumped}
@@ -31,15 +27,3 @@ replyText n (Byte k v) = numberText k ++ spaced v ++ lineFeed
 replyText n (Colour red green blue) = 0x30 ∷ spaced red ++ spaced green ++ spaced blue ++ lineFeed
 replyText n Registers = dumped n
 replyText n Unknown = 0x3F ∷ lineFeed
-
--- room for any of them
-abbrev pub roomy : List ℕ → ℕ → Bool
-roomy out at = leb (at + 8192) (length out)
-
--- what an output then holds
-unfoldable pub withReply : List ℕ → ℕ → Named → Reply → List ℕ
-withReply out at n r = cond (roomy out at) (put out at (replyText n r)) out
-
--- where the next byte goes
-unfoldable pub behindReply : List ℕ → ℕ → Named → Reply → ℕ
-behindReply out at n r = cond (roomy out at) (at + length (replyText n r)) at

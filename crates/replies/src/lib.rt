@@ -4,9 +4,9 @@ ghost use mathlib.Core.Path.{_≡_};
 ghost use Prim.Native.Nat.{_+_, _≤_};
 ghost use lib.ListN.{length};
 ghost use Rattle.chip.specs.State.{named};
-ghost use Rattle.text.specs.Adding.{Added};
+ghost use Rattle.text.specs.Adding.{Added, withAddedIn, behindIn};
 ghost use Rattle.dump.specs.Text.{dumped};
-ghost use Rattle.replies.specs.Reply.{numberText, replyText, withReply, behindReply};
+ghost use Rattle.replies.specs.Reply.{numberText, replyText};
 use chip::Chip;
 use dump::dump;
 use text::digit;
@@ -103,8 +103,8 @@ fn add_reply(chip: Chip, reply: Reply, out: &mut [u8], at: usize) -> usize
 // The text of an answer, at a place of an output that has 8,192 bytes from there on; where the next byte goes. With less
 // room nothing changes.
 pub fn print(chip: Chip, reply: Reply, out: &mut [u8], at: usize) -> usize
-    ensures { λ r. ⌜ r ≡ behindReply (now (out .entry)) at (named chip) reply ⌝ }
-    ensures { λ r. ⌜ now (out .exit) ≡ withReply (now (out .entry)) at (named chip) reply ⌝ }
+    ensures { λ r. ⌜ r ≡ behindIn 8192 (now (out .entry)) at (replyText (named chip) reply) ⌝ }
+    ensures { λ r. ⌜ now (out .exit) ≡ withAddedIn 8192 (now (out .entry)) at (replyText (named chip) reply) ⌝ }
 {
     if out.len() < at {
         return at;

@@ -11,7 +11,7 @@ use lib.ListN.{length, take, drop, getD, set, length-append, drop-of-length-le}
 use lib.Seq.{take-suc-set, length-take-le, take-all, take-at, drop-cons}
 use borrow.Author.Tests.{lt-ltb, le-ltb, lt-leb, leb-true, leb-false, eq-eqb, ne-eqb}
 use Rattle.lists.specs.Put.{put}
-use Rattle.replies.specs.Reply.{withReply, behindReply}
+use Rattle.text.specs.Adding.{withAddedIn, behindIn}
 use Rattle.session.specs.Desk.{Sitting, place, kept, roomIn, lineDone, taken, fed, sitting, lineActed, storeLeft, textOf, answeredIn, outLeft}
 use Rattle.session.specs.declared.Bench.{Bench}
 use Rattle.session.specs.declared.desk.Answered.{Answered}
@@ -61,7 +61,7 @@ module _ (b : Bench) (store line : List ℕ) (size : ℕ) (out : List ℕ) (next
       → a ≡ answeredIn out next (lineActed b store (take size line)) → store₁ ≡ storeLeft b store (take size line)
       → out₁ ≡ outLeft out next (lineActed b store (take size line))
       → sitting (a .bench) store₁ line 0 out₁ (a .next) ≡ taken most (sitting b store line size out next) c
-  unfolding taken lineDone withReply behindReply
+  unfolding taken lineDone withAddedIn behindIn
   taken-line h room a store₁ out₁ ea es eo =
       let t : List ℕ = textOf (lineActed b store (take size line)) in
       let r : next + 8192 ≤ length out = leb-true _ _ room in

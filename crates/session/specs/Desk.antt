@@ -8,11 +8,12 @@ use mathlib.Core.List.{List, [], _∷_, _++_}
 use lib.Dec.{ltb, leb, eqb}
 use lib.ListN.{length, take, drop}
 use Rattle.chip.specs.State.{Named, named}
+use Rattle.text.specs.Adding.{withAddedIn, behindIn}
 use Rattle.words.specs.Words.{wordsOf}
 use Rattle.requests.specs.Request.{requestOf}
 use Rattle.requests.specs.declared.Request.{Request}
 use Rattle.requests.specs.declared.Request.the-variants.{Unknown}
-use Rattle.replies.specs.Reply.{replyText, behindReply, withReply}
+use Rattle.replies.specs.Reply.{replyText}
 use Rattle.session.specs.Session.{acted, storeAfter}
 use Rattle.session.specs.declared.Bench.{Bench}
 use Rattle.session.specs.declared.Acted.{Acted}
@@ -40,10 +41,10 @@ abbrev pub textOf : Acted → List ℕ
 textOf a = replyText (namedIn a) (a .reply)
 
 abbrev pub answeredIn : List ℕ → ℕ → Acted → Answered
-answeredIn out at a = record { bench = a .bench; next = behindReply out at (namedIn a) (a .reply) }
+answeredIn out at a = record { bench = a .bench; next = behindIn 8192 out at (textOf a) }
 
 abbrev pub outLeft : List ℕ → ℕ → Acted → List ℕ
-outLeft out at a = withReply out at (namedIn a) (a .reply)
+outLeft out at a = withAddedIn 8192 out at (textOf a)
 
 -- ---- bytes as they come
 

@@ -3,7 +3,8 @@ use native.Mathlib.Omega.{arith}
 use borrow.Author.Needs.{needs}
 use denote.Ref.{now}
 use Rattle.chip.specs.State.{named}
-use Rattle.dump.proofs.Room.{none-dumped, all-dumped}
+use Rattle.text.proofs.Adding.{none-in, in-added}
+use Rattle.dump.specs.Text.{dumped}
 use Rattle.dump.proofs.dump.Statement.{statement}
 use Rattle.dump.proofs.dump.Tie as tie
 
@@ -11,9 +12,9 @@ pub dump-spec : {M : Type 1} → statement M
 dump-spec =
     tie.close
     (tie.spec
-    (λ c. let a = c .before .before .args in none-dumped (now (a .out)) (a .at) (named (a .chip)) (omega arith))
+    (λ c. let a = c .before .before .args in none-in 8192 (now (a .out)) (a .at) (dumped (named (a .chip))) (omega arith))
     (λ c. search needs)
-    (λ c. let a = c .before .before .before .args in none-dumped (now (a .out)) (a .at) (named (a .chip)) (omega arith))
+    (λ c. let a = c .before .before .before .args in none-in 8192 (now (a .out)) (a .at) (dumped (named (a .chip))) (omega arith))
     (λ c κs. omega arith)
     (λ c. search needs)
-    (λ c. let a = c .before .before .before .before .before .before .before .args in all-dumped (now (a .out)) (a .at) (named (a .chip)) (omega arith) (c .before .before .add-paragraphs .ensures)))
+    (λ c. let a = c .before .before .before .before .before .before .before .args in in-added 8192 (now (a .out)) (a .at) (dumped (named (a .chip))) (omega arith) (c .before .before .add-paragraphs .ensures)))

@@ -2,7 +2,8 @@
 use borrow.Author.Needs.{needs}
 use denote.Ref.{now}
 use Rattle.chip.specs.State.{named}
-use Rattle.replies.proofs.Room.{dumped-added}
+use Rattle.text.proofs.Adding.{added-in}
+use Rattle.dump.specs.Text.{dumped}
 use Rattle.replies.proofs.add_registers.Statement.{statement}
 use Rattle.replies.proofs.add_registers.Tie as tie
 
@@ -12,4 +13,4 @@ add-registers-spec =
     (tie.spec
     (λ c κs. search needs)
     (λ c. search needs)
-    (λ c. let a = c .before .before .before .before .before .args in dumped-added (now (a .out)) (a .at) (named (a .chip)) (c .before .before .before .before .before .pre) (c .before .before .dump .ensures .0) (c .before .before .dump .ensures .1)))
+    (λ c. let a = c .before .before .before .before .before .args in added-in 8192 (now (a .out)) (a .at) (dumped (named (a .chip))) (c .before .before .before .before .before .pre) (c .before .before .dump .ensures .0) (c .before .before .dump .ensures .1)))
