@@ -5,8 +5,8 @@
 use Prim.Native.Nat.{ℕ, _+_}
 use mathlib.Core.Bool.{Bool, false, cond, _&&_}
 use lib.Dec.{leb, eqb}
-use lib.ListN.{getD}
 use Rattle.words.specs.Hex.{numberOf}
+use Rattle.words.specs.Words.{word}
 use Rattle.words.specs.declared.Words.{Words}
 use Rattle.words.specs.declared.Number.{Number}
 use Rattle.words.specs.declared.Number.the-variants.{Of, Other}
@@ -30,9 +30,6 @@ unfoldable pub value : ℕ → ℕ → ℕ
 value most word = cond (fits most word) (valueOf (numberOf word)) 0
 
 -- ---- the words of a line by their place, the name being 0
-abbrev pub word : Words → ℕ → ℕ
-word w k = getD (w .at) k 0
-
 -- the name, and no word behind the n that follow it
 abbrev pub form : Words → ℕ → ℕ → Bool
 form w name n = eqb (word w 0) name && eqb (word w (n + 1)) 0

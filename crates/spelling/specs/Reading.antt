@@ -7,7 +7,7 @@ use mathlib.Core.List.{List}
 use lib.Dec.{ltb, eqb}
 use lib.ListN.{getD}
 use Rattle.words.specs.declared.Words.{Words}
-use Rattle.words.specs.Words.{wordsOf}
+use Rattle.words.specs.Words.{word, wordsOf}
 use Rattle.words.specs.Hex.{isByte, byteOf}
 use Rattle.steps.specs.declared.Step.the-variants.{Set, Field, Colour}
 use Rattle.spelling.specs.declared.Name.{Name}
@@ -50,10 +50,6 @@ unfoldable pub colourOf : ℕ → ℕ → ℕ → ℕ → Line
 colourOf entry red green blue =
     cond (isByte entry && isByte red && isByte green && isByte blue)
     (Is (Colour (byteOf entry) (byteOf red) (byteOf green) (byteOf blue))) Other
-
--- word k of a line
-abbrev pub word : Words → ℕ → ℕ
-word w k = getD (w .at) k 0
 
 -- `SET`, `FIELD`, `COLOUR`, each with just its words
 unfoldable pub stepOf : Words → Line

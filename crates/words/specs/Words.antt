@@ -7,7 +7,7 @@ use Prim.Native.Nat.{ℕ, _+_, _-_, _*_}
 use mathlib.Core.Bool.{Bool, cond}
 use mathlib.Core.List.{List, [], _∷_}
 use lib.Dec.{ltb, leb, eqb}
-use lib.ListN.{set, replicate}
+use lib.ListN.{getD, set, replicate}
 use Rattle.words.specs.declared.Words.{Words}
 
 abbrev pub blank : ℕ → Bool
@@ -43,3 +43,7 @@ takenAll s (c ∷ cs) = takenAll (taken s c) cs
 -- the words of a line
 unfoldable pub wordsOf : List ℕ → Words
 wordsOf line = ended (takenAll none line)
+
+-- word k of them, from 0
+abbrev pub word : Words → ℕ → ℕ
+word w k = getD (w .at) k 0
