@@ -16,7 +16,7 @@ use Rattle.text.specs.Digits.{lastDigit, byteDigits}
 use Rattle.words.specs.declared.Words.{Words}
 use Rattle.words.specs.Words.{none, grown, ended, taken, takenAll, wordsOf}
 use Rattle.words.specs.Hex.{digitValue, isByte, byteOf}
-use Rattle.words.proofs.WordLaws.{Character, packed, reading, word-taken}
+use Rattle.words.proofs.WordLaws.{Character, plain-character, packed, reading, word-taken}
 use Rattle.steps.specs.Step.{names, legal, bytesOf}
 use Rattle.steps.specs.declared.Step.{Step}
 use Rattle.steps.specs.declared.Step.the-variants.{Set, Field, Colour}
@@ -54,7 +54,7 @@ module _ (v : ℕ) (byte : v < 256) where
       (t .0, eqb-true _ _ (t .1))
 
 digit-character : (x : ℕ) → Character (lastDigit x)
-digit-character x = let h = digit-range x in (omega (arith, h .0), omega (arith, h .1))
+digit-character x = let h = digit-range x in plain-character (lastDigit x) (omega (arith, h .0)) (omega (arith, h .1))
 
 digits-taken : (n : ℕ) (a : List ℕ) (v : ℕ) (r : List ℕ) → takenAll (reading n 0 a) (byteDigits v ++ r) ≡ takenAll (reading n (pair v) a) r
 digits-taken n a v r =
@@ -120,7 +120,7 @@ module _ (n : ℕ) (a : List ℕ) (g i : ℕ) (group : g < 9) (r : List ℕ) whe
           let l = letter-range g group in
           let sum : packed 0 (letter g ∷ 0x52 ∷ byteDigits i) ≡ 65536 * word + pair i = omega arith in
           word-taken n a (letter g ∷ 0x52 ∷ byteDigits i) 0 0 r
-          ((omega (arith, l .0), omega (arith, l .1)), ((omega arith, omega arith), (digit-character (i / 16), (digit-character i, tt))))
+          (plain-character (letter g) (omega (arith, l .0)) (omega (arith, l .1)), (plain-character 0x52 (omega arith) (omega arith), (digit-character (i / 16), (digit-character i, tt))))
           (λ z. omega (arith, z))
           (omega arith)
           (omega arith)

@@ -1,20 +1,20 @@
 -- Laws of words: one character after another from a place on; a line that is taken in two parts; a word's number is its characters in
 -- base 256 (`word-taken`), so that different words of up to eight characters have different numbers (`words-differ`).
-use Prim.Native.Nat.{ℕ, suc, _+_, _*_, _^_, _<_, _≤_}
+use Prim.Native.Nat.{ℕ, suc, _+_, _-_, _*_, _^_, _<_, _≤_}
 use native.Mathlib.Numerals.{add-one}
 use native.Mathlib.Nat.{pow-succ'}
 use native.Mathlib.Omega.{arith}
 use native.Mathlib.Decide.{ℕ-discrete, decLt}
-use mathlib.Core.Bool.{Bool, true}
+use mathlib.Core.Bool.{Bool, true, false, cond}
 use mathlib.Core.Path.{_≡_, refl, sym, ap, _∙_}
 use mathlib.Core.List.{List, [], _∷_, _++_}
 use lib.ListN.{length, getD, drop, drop-of-length-le}
 use lib.Seq.{drop-cons}
-use lib.Dec.{leb}
-use borrow.Author.Tests.{lt-ltb, le-ltb, lt-leb, leb-true, ne-eqb}
+use lib.Dec.{ltb, leb}
+use borrow.Author.Tests.{lt-ltb, le-ltb, lt-leb, leb-true, ltb-true, ltb-false, ne-eqb}
 use Rattle.lists.specs.Scan.{every}
 use Rattle.lists.proofs.Scan.{every-at}
-use Rattle.words.specs.Words.{grown, taken, takenAll}
+use Rattle.words.specs.Words.{capital, grown, taken, takenAll}
 use Rattle.words.specs.declared.Words.{Words}
 
 pub taken-append : (s : Words) (x y : List ℕ) → takenAll s (x ++ y) ≡ takenAll (takenAll s x) y
@@ -32,9 +32,24 @@ module _ (s : Words) (l : List ℕ) (i : ℕ) where
   taken-end h = rw (drop-of-length-le l {i = i} h)
 
 -- ---- a word's number
--- a character of a word that is a capital already
+-- a character of a word: a byte that is no blank and no small letter
 abbrev pub Character : ℕ → Type 0
-Character c = (0x21 ≤ c) × (c < 0x61)
+Character c = (0x21 ≤ c) × (c < 256) × (capital c ≡ c)
+
+pub plain-character : (c : ℕ) → 0x21 ≤ c → c < 0x61 → Character c
+plain-character c h k = (h, omega arith, rw (lt-ltb c 0x61 k))
+
+-- every byte that is no blank is one as a capital
+pub capital-character : (c : ℕ) → 0x21 ≤ c → c < 256 → Character (capital c)
+capital-character c h k = go (ltb c 0x61) refl (ltb c 0x7B) refl
+  where
+    go : (x : Bool) → ltb c 0x61 ≡ x → (y : Bool) → ltb c 0x7B ≡ y → Character (cond x c (cond y (c - 0x20) c))
+    go true e y f = plain-character c h (ltb-true _ _ e)
+    go false e true f =
+        let low : 0x61 ≤ c = ltb-false _ _ e in
+        let high : c < 0x7B = ltb-true _ _ f in
+        plain-character (c - 0x20) (omega arith) (omega arith)
+    go false e false f = (h, k, rw (e, f))
 
 abbrev pub Characters : List ℕ → Type 0
 Characters [] = Unit {0}
@@ -58,7 +73,7 @@ all-small = refl
 module _ (n : ℕ) (a : List ℕ) where
   pub character : (w c : ℕ) → Character c → (w ≡ 1 → ⊥) → w < 0x100000000000000 → taken (reading n w a) c ≡ reading n (256 * w + c) a
   unfolding taken grown
-  character w c h p q = rw (le-ltb c 0x21 (h .0), ne-eqb w 1 p, lt-leb 0x100000000000000 w q, lt-ltb c 0x61 (h .1))
+  character w c h p q = rw (le-ltb c 0x21 (h .0), ne-eqb w 1 p, lt-leb 0x100000000000000 w q, h .2)
 
   -- k characters are below 256 ^ k
   pub word-taken : (x : List ℕ) (w k : ℕ) (r : List ℕ) → Characters x → (w ≡ 1 → ⊥) → w < 256 ^ k → k + length x ≤ 8
