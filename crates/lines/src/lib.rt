@@ -7,7 +7,7 @@ ghost use Prim.Native.Nat.{_+_, _*_, _≤_};
 ghost use lib.ListN.{length};
 ghost use Rattle.script.specs.Numbers.{ofRefusal};
 ghost use Rattle.commands.specs.Translation.{translated, leftBy as translatedBy};
-ghost use Rattle.text.specs.Digits.{decimalIn};
+ghost use Rattle.text.specs.Digits.{decimal};
 ghost use Rattle.lines.specs.Line.{line};
 ghost use Rattle.lines.specs.Text.{header, refusal, listed, leftBy};
 ghost use Rattle.text.specs.Adding.{Added};
@@ -133,19 +133,12 @@ fn add_lines(out: &mut [u8], from: usize, bytes: &[u8], n: usize) -> usize
     at
 }
 
-// A number in decimal, in at most so many places.
-fn add_decimal(out: &mut [u8], at: usize, n: usize, places: usize) -> usize
-    requires { ⌜ at + places ≤ length (now out) ⌝ }
-    ensures { λ r. ⌜ Added (now (out .entry)) at (decimalIn places n) (now (out .exit)) r ⌝ }
+// A number in decimal behind what stands in an output that has room for 20 digits.
+fn add_decimal(out: &mut [u8], at: usize, n: usize) -> usize
+    requires { ⌜ at + 20 ≤ length (now out) ⌝ }
+    ensures { λ r. ⌜ Added (now (out .entry)) at (decimal n) (now (out .exit)) r ⌝ }
 {
-    if places == 0 {
-        return at;
-    }
-    if n < 10 {
-        return add(out, at, &[0x30 + n as u8]);
-    }
-    let next = add_decimal(out, at, n / 10, places - 1);
-    add(out, next, &[0x30 + (n % 10) as u8])
+    text::add_decimal(out, at, n)
 }
 
 // The header.
@@ -154,9 +147,9 @@ fn add_header(out: &mut [u8], steps: usize, commands: usize) -> usize
     ensures { λ r. ⌜ Added (now (out .entry)) 0 (header steps commands) (now (out .exit)) r ⌝ }
 {
     let first = add(out, 0, b"steps ");
-    let word = add_decimal(out, first, steps, 20);
+    let word = add_decimal(out, first, steps);
     let second = add(out, word, b" commands ");
-    let end = add_decimal(out, second, commands, 20);
+    let end = add_decimal(out, second, commands);
     add(out, end, b"\n")
 }
 
@@ -178,7 +171,7 @@ fn add_refusal(out: &mut [u8], number: usize) -> usize
     ensures { λ r. ⌜ Added (now (out .entry)) 0 (refusal number) (now (out .exit)) r ⌝ }
 {
     let first = add(out, 0, b"refused ");
-    let end = add_decimal(out, first, number, 20);
+    let end = add_decimal(out, first, number);
     add(out, end, b"\n")
 }
 

@@ -1,42 +1,24 @@
--- Laws of the text of an answer: the digits of a number; no answer has more than 8,192 bytes, the room that is asked for; and worked answers.
+-- Laws of the text of an answer: no answer has more than 8,192 bytes, the room that is asked for; and worked answers.
 use Prim.Native.Nat.{ℕ, _+_, _/_, _%_, _≤_, _<_}
 use native.Mathlib.Omega.{arith}
 use mathlib.Core.Path.{_≡_, refl}
 use mathlib.Core.List.{[], _∷_}
 use lib.ListN.{length, length-append}
 use borrow.Author.Tests.{lt-ltb, le-ltb}
-use Rattle.text.specs.Digits.{decimalIn}
+use Rattle.text.specs.Digits.{decimalIn, decimal}
 use Rattle.text.proofs.DigitLaws.{decimal-most}
 use Rattle.chip.specs.State.{Named}
 use Rattle.dump.proofs.Lengths.{dumped-most}
-use Rattle.replies.specs.Reply.{numberText, replyText}
+use Rattle.replies.specs.Reply.{replyText}
 use Rattle.replies.specs.declared.Reply.{Reply}
 use Rattle.replies.specs.declared.Reply.the-variants.{Number, Byte, Colour, Registers, Unknown}
-
--- ---- a byte's digits in decimal: one, two or three
-module _ (n : ℕ) where
-  pub number-one : n < 10 → numberText n ≡ (0x30 + n) ∷ []
-  unfolding decimalIn
-  number-one h = rw (lt-ltb _ _ h)
-
-  pub number-two : 10 ≤ n → n < 100 → numberText n ≡ (0x30 + n / 10) ∷ (0x30 + n % 10) ∷ []
-  unfolding decimalIn
-  number-two h k = let t : n / 10 < 10 = omega arith in rw (le-ltb n 10 h, lt-ltb (n / 10) 10 t)
-
-  pub number-three : 100 ≤ n → n < 256 → numberText n ≡ (0x30 + n / 10 / 10) ∷ (0x30 + n / 10 % 10) ∷ (0x30 + n % 10) ∷ []
-  unfolding decimalIn
-  number-three h k =
-      let a : 10 ≤ n = omega arith in
-      let b : 10 ≤ n / 10 = omega arith in
-      let c : n / 10 / 10 < 10 = omega arith in
-      rw (le-ltb n 10 a, le-ltb (n / 10) 10 b, lt-ltb (n / 10 / 10) 10 c)
 
 -- ---- the text of an answer
 module _ (n : Named) where
   pub length-reply : (r : Reply) → length (replyText n r) ≤ 8192
   unfolding replyText
-  length-reply (Number k) = let h : length (decimalIn 3 k) ≤ 3 = decimal-most 3 k in simp length-append (omega arith)
-  length-reply (Byte k v) = let h : length (decimalIn 3 k) ≤ 3 = decimal-most 3 k in simp length-append (omega arith)
+  length-reply (Number k) = let h : length (decimal k) ≤ 20 = decimal-most 20 k in simp length-append (omega arith)
+  length-reply (Byte k v) = let h : length (decimal k) ≤ 20 = decimal-most 20 k in simp length-append (omega arith)
   length-reply (Colour red green blue) = omega arith
   length-reply Registers = dumped-most n
   length-reply Unknown = omega arith

@@ -3,15 +3,11 @@
 -- (`withAddedIn` and `behindIn` of the crate text). That no answer is longer, and worked answers, are proofs/ReplyLaws.
 use Prim.Native.Nat.{ℕ, _+_}
 use mathlib.Core.List.{List, [], _∷_, _++_}
-use Rattle.text.specs.Digits.{byteDigits, decimalIn}
+use Rattle.text.specs.Digits.{byteDigits, decimal}
 use Rattle.chip.specs.State.{Named}
 use Rattle.dump.specs.Text.{dumped}
 use Rattle.replies.specs.declared.Reply.{Reply}
 use Rattle.replies.specs.declared.Reply.the-variants.{Number, Byte, Colour, Registers, Unknown}
-
--- a number of up to three digits: every byte has no more
-abbrev pub numberText : ℕ → List ℕ
-numberText n = decimalIn 3 n
 
 -- a space and a byte
 abbrev pub spaced : ℕ → List ℕ
@@ -22,8 +18,8 @@ lineFeed = 0x0A ∷ []
 
 -- `0`, `0 43`, `0 FC 00 54`, all registers, and `?`
 unfoldable pub replyText : Named → Reply → List ℕ
-replyText n (Number k) = numberText k ++ lineFeed
-replyText n (Byte k v) = numberText k ++ spaced v ++ lineFeed
+replyText n (Number k) = decimal k ++ lineFeed
+replyText n (Byte k v) = decimal k ++ spaced v ++ lineFeed
 replyText n (Colour red green blue) = 0x30 ∷ spaced red ++ spaced green ++ spaced blue ++ lineFeed
 replyText n Registers = dumped n
 replyText n Unknown = 0x3F ∷ lineFeed

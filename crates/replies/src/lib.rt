@@ -4,9 +4,10 @@ ghost use mathlib.Core.Path.{_≡_};
 ghost use Prim.Native.Nat.{_+_, _≤_};
 ghost use lib.ListN.{length};
 ghost use Rattle.chip.specs.State.{named};
+ghost use Rattle.text.specs.Digits.{decimal};
 ghost use Rattle.text.specs.Adding.{Added, withAddedIn, behindIn};
 ghost use Rattle.dump.specs.Text.{dumped};
-ghost use Rattle.replies.specs.Reply.{numberText, replyText};
+ghost use Rattle.replies.specs.Reply.{replyText};
 use chip::Chip;
 use dump::dump;
 use text::digit;
@@ -35,21 +36,11 @@ fn add(out: &mut [u8], at: usize, bytes: &[u8]) -> usize
 
 // A number in decimal.
 fn add_number(out: &mut [u8], at: usize, n: u8) -> usize
-    requires { ⌜ at + 3 ≤ length (now out) ⌝ }
-    ensures { λ r. ⌜ Added (now (out .entry)) at (numberText n) (now (out .exit)) r ⌝ }
-    ensures { λ r. ⌜ r ≤ at + 3 ⌝ }
+    requires { ⌜ at + 20 ≤ length (now out) ⌝ }
+    ensures { λ r. ⌜ Added (now (out .entry)) at (decimal n) (now (out .exit)) r ⌝ }
+    ensures { λ r. ⌜ r ≤ at + 20 ⌝ }
 {
-    if n < 10 {
-        return add(out, at, &[0x30 + n]);
-    }
-    if n < 100 {
-        return add(out, at, &[0x30 + n / 10, 0x30 + n % 10]);
-    }
-    add(
-        out,
-        at,
-        &[0x30 + n / 10 / 10, 0x30 + n / 10 % 10, 0x30 + n % 10],
-    )
+    text::add_decimal(out, at, n as usize)
 }
 
 // All registers.

@@ -1,10 +1,10 @@
-// Text that a program prints, as bytes in ASCII: capital hexadecimal digits, and bytes put one behind the other into a lent
+// Text that a program prints, as bytes in ASCII: capital hexadecimal digits, numbers in decimal, and bytes put one behind the other into a lent
 // output. The definitions are specs/Digits and specs/Adding.
 ghost use mathlib.Core.Path.{_≡_};
 ghost use Prim.Native.Nat.{_+_, _≤_};
 ghost use lib.ListN.{length};
-ghost use Rattle.text.specs.Digits.{lastDigit};
-ghost use Rattle.text.specs.Adding.{withAdded, behind, Added};
+ghost use Rattle.text.specs.Digits.{lastDigit, decimalIn, decimal};
+ghost use Rattle.text.specs.Adding.{withAddedIn, behindIn, withAdded, behind, Added};
 
 // The last hexadecimal digit of a number.
 pub fn digit(n: u16) -> u8
@@ -39,4 +39,33 @@ pub fn add(out: &mut [u8], at: usize, bytes: &[u8]) -> usize
         return at;
     }
     copy(out, at, bytes)
+}
+
+// A number in decimal, in at most so many places, behind what stands in an output with room for so many.
+fn put_decimal(out: &mut [u8], at: usize, n: usize, places: usize) -> usize
+    requires { ⌜ at + places ≤ length (now out) ⌝ }
+    ensures { λ r. ⌜ Added (now (out .entry)) at (decimalIn places n) (now (out .exit)) r ⌝ }
+{
+    if places == 0 {
+        return at;
+    }
+    if n < 10 {
+        return copy(out, at, &[0x30 + n as u8]);
+    }
+    let next = put_decimal(out, at, n / 10, places - 1);
+    copy(out, next, &[0x30 + (n % 10) as u8])
+}
+
+// A number in decimal behind what stands in an output, if there is room for the longest, 20 digits; where the next byte goes.
+pub fn add_decimal(out: &mut [u8], at: usize, n: usize) -> usize
+    ensures { λ r. ⌜ r ≡ behindIn 20 (now (out .entry)) at (decimal n) ⌝ }
+    ensures { λ r. ⌜ now (out .exit) ≡ withAddedIn 20 (now (out .entry)) at (decimal n) ⌝ }
+{
+    if out.len() < 20 {
+        return at;
+    }
+    if out.len() - 20 < at {
+        return at;
+    }
+    put_decimal(out, at, n, 20)
 }

@@ -1,7 +1,10 @@
--- One digit, two, and three.
-use borrow.Author.Needs.{needs}
+-- There is room: the digits stand there, and are at most 20.
 use native.Mathlib.Omega.{arith}
-use Rattle.replies.proofs.ReplyLaws.{number-one, number-two, number-three}
+use denote.Ref.{now}
+use borrow.Author.Needs.{needs}
+use Rattle.text.specs.Digits.{decimal}
+use Rattle.text.proofs.Adding.{added-in}
+use Rattle.text.proofs.DigitLaws.{decimal-most}
 use Rattle.replies.proofs.add_number.Statement.{statement}
 use Rattle.replies.proofs.add_number.Tie as tie
 
@@ -9,21 +12,8 @@ pub add-number-spec : {M : Type 1} → statement M
 add-number-spec =
     tie.close
     (tie.spec
-    (λ c. search needs)
-    (λ c. search needs)
     (λ c κs. search needs)
     (λ c. search needs)
-    (λ c. (rw (number-one _ (c .before .before .before .before .before .if1 .taken)) (c .before .before .add .ensures), omega (arith, c .before .before .add .ensures .next)))
-    (λ c. search needs)
-    (λ c. search needs)
-    (λ c. search needs)
-    (λ c κs. search needs)
-    (λ c. search needs)
-    (λ c. (rw (number-two _ (c .before .before .before .before .before .before .if1 .left) (c .before .before .before .before .before .if2 .taken)) (c .before .before .add2 .ensures), omega (arith, c .before .before .add2 .ensures .next)))
-    (λ c. search needs)
-    (λ c. search needs)
-    (λ c. search needs)
-    (λ c. search needs)
-    (λ c κs. search needs)
-    (λ c. search needs)
-    (λ c. (rw (number-three _ (c .before .before .before .before .before .if2 .left) (omega arith)) (c .before .before .add3 .ensures), omega (arith, c .before .before .add3 .ensures .next))))
+    (λ c. let a = c .before .before .before .before .before .args in
+    let s = added-in 20 (now (a .out)) (a .at) (decimal (a .n)) (c .before .before .before .before .before .pre) (c .before .before .add-decimal .ensures .0) (c .before .before .add-decimal .ensures .1) in
+    (s, omega (arith, s .next, decimal-most 20 (a .n)))))

@@ -1,0 +1,19 @@
+-- No room, and room for 20 digits.
+use native.Mathlib.Omega.{arith}
+use denote.Ref.{now}
+use borrow.Author.Needs.{needs}
+use Rattle.text.specs.Digits.{decimal}
+use Rattle.text.proofs.Adding.{none-in, in-added}
+use Rattle.text.proofs.add_decimal.Statement.{statement}
+use Rattle.text.proofs.add_decimal.Tie as tie
+
+pub add-decimal-spec : {M : Type 1} → statement M
+add-decimal-spec =
+    tie.close
+    (tie.spec
+    (λ c. let a = c .before .before .args in none-in 20 (now (a .out)) (a .at) (decimal (a .n)) (omega arith))
+    (λ c. search needs)
+    (λ c. let a = c .before .before .before .args in none-in 20 (now (a .out)) (a .at) (decimal (a .n)) (omega arith))
+    (λ c κs. search needs)
+    (λ c. search needs)
+    (λ c. let a = c .before .before .before .before .before .before .before .args in in-added 20 (now (a .out)) (a .at) (decimal (a .n)) (omega arith) (c .before .before .put-decimal .ensures)))
