@@ -14,18 +14,19 @@ use Rattle.commands.specs.Translation.{commandsTo, translated}
 use Rattle.commands.specs.declared.Translated.{Translated}
 use Rattle.commands.specs.declared.Translated.the-variants.{Commands, Refused}
 use Rattle.text.specs.Digits.{decimal}
+use Rattle.text.specs.Refused.{refused}
 use Rattle.lines.specs.Line.{space, lineFeed, linesOf}
 use Rattle.lines.specs.declared.Listed.{Listed}
 use Rattle.lines.specs.declared.Listed.the-variants.{Text, Short}
 
--- `steps `, ` commands `, `refused `
+-- `steps `, ` commands `
 abbrev pub header : ℕ → ℕ → List ℕ
 header steps commands =
     (0x73 ∷ 0x74 ∷ 0x65 ∷ 0x70 ∷ 0x73 ∷ space) ++ decimal steps
     ++ (0x20 ∷ 0x63 ∷ 0x6F ∷ 0x6D ∷ 0x6D ∷ 0x61 ∷ 0x6E ∷ 0x64 ∷ 0x73 ∷ space) ++ decimal commands ++ lineFeed
 
 abbrev pub refusal : ℕ → List ℕ
-refusal number = (0x72 ∷ 0x65 ∷ 0x66 ∷ 0x75 ∷ 0x73 ∷ 0x65 ∷ 0x64 ∷ space) ++ decimal number ++ lineFeed
+refusal number = refused number
 
 -- the text for what the translation of a file answers
 abbrev pub textBy : Translated → List ℕ → List ℕ

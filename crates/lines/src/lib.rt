@@ -170,9 +170,7 @@ fn add_refusal(out: &mut [u8], number: usize) -> usize
     requires { ⌜ 57 ≤ length (now out) ⌝ }
     ensures { λ r. ⌜ Added (now (out .entry)) 0 (refusal number) (now (out .exit)) r ⌝ }
 {
-    let first = add(out, 0, b"refused ");
-    let end = add_decimal(out, first, number);
-    add(out, end, b"\n")
+    text::add_refused(out, 0, number)
 }
 
 // The header and the lines of k commands.

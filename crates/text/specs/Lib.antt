@@ -1,3 +1,4 @@
--- What has to be believed of text: digits (Digits), and bytes put one behind the other (Adding).
+-- What has to be believed of text: digits (Digits), the line of a refusal (Refused), and bytes put one behind the other (Adding).
 pub mod Digits
+pub mod Refused
 pub mod Adding

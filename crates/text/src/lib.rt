@@ -1,9 +1,10 @@
 // Text that a program prints, as bytes in ASCII: capital hexadecimal digits, numbers in decimal, and bytes put one behind the other into a lent
-// output. The definitions are specs/Digits and specs/Adding.
+// output. The definitions are specs/Digits, specs/Refused and specs/Adding.
 ghost use mathlib.Core.Path.{_≡_};
 ghost use Prim.Native.Nat.{_+_, _≤_};
 ghost use lib.ListN.{length};
 ghost use Rattle.text.specs.Digits.{lastDigit, decimalIn, decimal};
+ghost use Rattle.text.specs.Refused.{refused};
 ghost use Rattle.text.specs.Adding.{withAddedIn, behindIn, withAdded, behind, Added};
 
 // The last hexadecimal digit of a number.
@@ -68,4 +69,28 @@ pub fn add_decimal(out: &mut [u8], at: usize, n: usize) -> usize
         return at;
     }
     put_decimal(out, at, n, 20)
+}
+
+// The line of a refusal, behind what stands in an output with room for it.
+fn put_refused(out: &mut [u8], at: usize, number: usize) -> usize
+    requires { ⌜ at + 29 ≤ length (now out) ⌝ }
+    ensures { λ r. ⌜ Added (now (out .entry)) at (refused number) (now (out .exit)) r ⌝ }
+{
+    let first = copy(out, at, b"refused ");
+    let end = put_decimal(out, first, number, 20);
+    copy(out, end, b"\n")
+}
+
+// The line of a refusal, if there is room for the longest, 29 bytes; where the next byte goes.
+pub fn add_refused(out: &mut [u8], at: usize, number: usize) -> usize
+    ensures { λ r. ⌜ r ≡ behindIn 29 (now (out .entry)) at (refused number) ⌝ }
+    ensures { λ r. ⌜ now (out .exit) ≡ withAddedIn 29 (now (out .entry)) at (refused number) ⌝ }
+{
+    if out.len() < 29 {
+        return at;
+    }
+    if out.len() - 29 < at {
+        return at;
+    }
+    put_refused(out, at, number)
 }

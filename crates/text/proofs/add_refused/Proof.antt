@@ -1,0 +1,19 @@
+-- No room, and room for the longest.
+use native.Mathlib.Omega.{arith}
+use denote.Ref.{now}
+use borrow.Author.Needs.{needs}
+use Rattle.text.specs.Refused.{refused}
+use Rattle.text.proofs.Adding.{none-in, in-added}
+use Rattle.text.proofs.add_refused.Statement.{statement}
+use Rattle.text.proofs.add_refused.Tie as tie
+
+pub add-refused-spec : {M : Type 1} → statement M
+add-refused-spec =
+    tie.close
+    (tie.spec
+    (λ c. let a = c .before .before .args in none-in 29 (now (a .out)) (a .at) (refused (a .number)) (omega arith))
+    (λ c. search needs)
+    (λ c. let a = c .before .before .before .args in none-in 29 (now (a .out)) (a .at) (refused (a .number)) (omega arith))
+    (λ c κs. search needs)
+    (λ c. search needs)
+    (λ c. let a = c .before .before .before .before .before .before .before .args in in-added 29 (now (a .out)) (a .at) (refused (a .number)) (omega arith) (c .before .before .put-refused .ensures)))
