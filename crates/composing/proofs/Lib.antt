@@ -2,4 +2,5 @@
 pub mod LineLaws
 pub mod Gathering
 pub mod Answers
+pub mod Complaining
 pub mod SameFile

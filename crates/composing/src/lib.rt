@@ -5,8 +5,10 @@
 ghost use mathlib.Core.Path.{_≡_};
 ghost use Prim.Native.Nat.{_+_, _≤_, _<_};
 ghost use lib.ListN.{length};
+ghost use Rattle.text.specs.Adding.{withAddedIn, behindIn, Added};
 ghost use Rattle.writer.specs.Write.{written, leftBy as writtenBy};
 ghost use Rattle.composing.specs.Compose.{stepVerdict, verdict, verdictNumber, ofWriter, composed, leftBy};
+ghost use Rattle.composing.specs.Complaint.{lineNumber, wrong, stoppedText, refusalText, complaint};
 ghost use Rattle.composing.specs.Working.{isFine, LineEnds, lineSize, Kept, Gathers};
 use script::Refusal;
 use spelling::Line;
@@ -14,6 +16,8 @@ use spelling::read_line;
 use steps::is_legal;
 use steps::to_bytes;
 use text::add;
+use text::add_decimal;
+use text::add_refused;
 use writer::Written;
 use writer::write;
 
@@ -175,4 +179,71 @@ pub fn compose(text: &[u8], out: &mut [u8]) -> Composed
 {
     let mut steps = step_buffer();
     compose_with(text, &mut steps, out)
+}
+
+// The number of a line, counted from 1.
+fn line_number(k: usize) -> usize
+    ensures { λ r. ⌜ r ≡ lineNumber k ⌝ }
+{
+    if k == usize::MAX {
+        return 0;
+    }
+    k + 1
+}
+
+// What is wrong with a line.
+fn put_wrong(out: &mut [u8], at: usize, number: u8) -> usize
+    requires { ⌜ at + 29 ≤ length (now out) ⌝ }
+    ensures { λ r. ⌜ Added (now (out .entry)) at (wrong number) (now (out .exit)) r ⌝ }
+{
+    if number == 0 {
+        return add(out, at, b"not a step\n");
+    }
+    add_refused(out, at, number as usize)
+}
+
+// A line that is not fine.
+fn put_stopped(out: &mut [u8], at: usize, number: u8, k: usize) -> usize
+    requires { ⌜ at + 80 ≤ length (now out) ⌝ }
+    ensures { λ r. ⌜ Added (now (out .entry)) at (stoppedText number k) (now (out .exit)) r ⌝ }
+{
+    let line = add(out, at, b"compose: line ");
+    let colon = add_decimal(out, line, line_number(k));
+    let what = add(out, colon, b": ");
+    put_wrong(out, what, number)
+}
+
+// What the writer refuses.
+fn put_refusal(out: &mut [u8], at: usize, number: u8) -> usize
+    requires { ⌜ at + 80 ≤ length (now out) ⌝ }
+    ensures { λ r. ⌜ Added (now (out .entry)) at (refusalText number) (now (out .exit)) r ⌝ }
+{
+    let what = add(out, at, b"compose: ");
+    add_refused(out, what, number as usize)
+}
+
+// What is said of an answer.
+fn put_complaint(out: &mut [u8], at: usize, c: Composed) -> usize
+    requires { ⌜ at + 80 ≤ length (now out) ⌝ }
+    ensures { λ r. ⌜ Added (now (out .entry)) at (complaint c) (now (out .exit)) r ⌝ }
+{
+    match c {
+        Composed::Blocks(_) => at,
+        Composed::Stopped(v, k) => put_stopped(out, at, verdict_number(v), k),
+        Composed::Refused(r) => put_refusal(out, at, r.number()),
+    }
+}
+
+// What is said of an answer, in one line behind what stands in an output, if there is room for 80 bytes; where the next byte goes.
+pub fn complain(c: Composed, out: &mut [u8], at: usize) -> usize
+    ensures { λ r. ⌜ r ≡ behindIn 80 (now (out .entry)) at (complaint c) ⌝ }
+    ensures { λ r. ⌜ now (out .exit) ≡ withAddedIn 80 (now (out .entry)) at (complaint c) ⌝ }
+{
+    if out.len() < 80 {
+        return at;
+    }
+    if out.len() - 80 < at {
+        return at;
+    }
+    put_complaint(out, at, c)
 }
