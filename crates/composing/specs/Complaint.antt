@@ -5,11 +5,9 @@ use Prim.Native.Nat.{ℕ, _+_, _%_}
 use mathlib.Core.Bool.{cond}
 use mathlib.Core.List.{List, [], _∷_, _++_}
 use lib.Dec.{eqb}
-use Rattle.text.specs.Digits.{decimal}
-use Rattle.text.specs.Refused.{refused}
+use Rattle.text.specs.Refused.{refused, placed}
 use Rattle.script.specs.Numbers.{ofRefusal}
 use Rattle.composing.specs.Compose.{verdictNumber}
-use Rattle.composing.specs.declared.Verdict.{Verdict}
 use Rattle.composing.specs.declared.Composed.{Composed}
 use Rattle.composing.specs.declared.Composed.the-variants.{Blocks, Stopped, Refused}
 
@@ -21,15 +19,19 @@ lineNumber k = (k + 1) % 18446744073709551616
 unfoldable pub wrong : ℕ → List ℕ
 wrong number = cond (eqb number 0) (0x6E ∷ 0x6F ∷ 0x74 ∷ 0x20 ∷ 0x61 ∷ 0x20 ∷ 0x73 ∷ 0x74 ∷ 0x65 ∷ 0x70 ∷ 0x0A ∷ []) (refused number)
 
--- `compose: line `, `: `
+-- `compose: line `
+abbrev pub stoppedPlace : ℕ → List ℕ
+stoppedPlace k = placed (0x63 ∷ 0x6F ∷ 0x6D ∷ 0x70 ∷ 0x6F ∷ 0x73 ∷ 0x65 ∷ 0x3A ∷ 0x20 ∷ 0x6C ∷ 0x69 ∷ 0x6E ∷ 0x65 ∷ 0x20 ∷ []) (lineNumber k)
+
 abbrev pub stoppedText : ℕ → ℕ → List ℕ
-stoppedText number k =
-    (0x63 ∷ 0x6F ∷ 0x6D ∷ 0x70 ∷ 0x6F ∷ 0x73 ∷ 0x65 ∷ 0x3A ∷ 0x20 ∷ 0x6C ∷ 0x69 ∷ 0x6E ∷ 0x65 ∷ 0x20 ∷ []) ++ decimal (lineNumber k)
-    ++ (0x3A ∷ 0x20 ∷ []) ++ wrong number
+stoppedText number k = stoppedPlace k ++ wrong number
 
 -- `compose: `
+abbrev pub program : List ℕ
+program = 0x63 ∷ 0x6F ∷ 0x6D ∷ 0x70 ∷ 0x6F ∷ 0x73 ∷ 0x65 ∷ 0x3A ∷ 0x20 ∷ []
+
 abbrev pub refusalText : ℕ → List ℕ
-refusalText number = (0x63 ∷ 0x6F ∷ 0x6D ∷ 0x70 ∷ 0x6F ∷ 0x73 ∷ 0x65 ∷ 0x3A ∷ 0x20 ∷ []) ++ refused number
+refusalText number = program ++ refused number
 
 unfoldable pub complaint : Composed → List ℕ
 complaint (Blocks n) = []

@@ -16,7 +16,7 @@ use spelling::read_line;
 use steps::is_legal;
 use steps::to_bytes;
 use text::add;
-use text::add_decimal;
+use text::add_place;
 use text::add_refused;
 use writer::Written;
 use writer::write;
@@ -207,9 +207,7 @@ fn put_stopped(out: &mut [u8], at: usize, number: u8, k: usize) -> usize
     requires { ⌜ at + 80 ≤ length (now out) ⌝ }
     ensures { λ r. ⌜ Added (now (out .entry)) at (stoppedText number k) (now (out .exit)) r ⌝ }
 {
-    let line = add(out, at, b"compose: line ");
-    let colon = add_decimal(out, line, line_number(k));
-    let what = add(out, colon, b": ");
+    let what = add_place(out, at, b"compose: line ", line_number(k));
     put_wrong(out, what, number)
 }
 

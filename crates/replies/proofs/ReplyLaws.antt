@@ -1,10 +1,9 @@
 -- Laws of the text of an answer: no answer has more than 8,192 bytes, the room that is asked for; and worked answers.
-use Prim.Native.Nat.{ℕ, _+_, _/_, _%_, _≤_, _<_}
+use Prim.Native.Nat.{_≤_}
 use native.Mathlib.Omega.{arith}
 use mathlib.Core.Path.{_≡_, refl}
 use mathlib.Core.List.{[], _∷_}
 use lib.ListN.{length, length-append}
-use borrow.Author.Tests.{lt-ltb, le-ltb}
 use Rattle.text.specs.Digits.{decimalIn, decimal}
 use Rattle.text.proofs.DigitLaws.{decimal-most}
 use Rattle.chip.specs.State.{Named}

@@ -1,5 +1,5 @@
-// Prints the steps of a script file that it reads from standard input, a line each, as the program compose reads them. The text is
-// the crate showing's. A file is at most twelve blocks, 6,144 bytes; one byte more is read, so that a longer file is seen to be longer
+// Prints the steps of a script file that it reads from standard input, a line each, as the program compose reads them. The text
+// and the complaint are the crate showing's. A file is at most twelve blocks, 6,144 bytes; one byte more is read, so that a longer file is seen to be longer
 // and is refused, not cut. What is wrong with a file goes to standard error, in one line, and nothing is printed.
 ghost use mathlib.Core.Path.{_≡_};
 ghost use lib.ListN.{length};
@@ -8,6 +8,7 @@ use libc::STDIN_FILENO;
 use libc::STDOUT_FILENO;
 use script::Refusal;
 use showing::Shown;
+use showing::complain;
 use showing::show;
 
 // Room for the lines of 1,008 steps, 20 bytes a line.
@@ -17,26 +18,10 @@ fn text_buffer() -> [u8; 20160]
     [0; 20160]
 }
 
-// Why a file is refused, and where: `show: block 3: refused 6`.
-fn complain(r: Refusal) {
-    io::write_all(STDERR_FILENO, b"show: ");
-    match r {
-        Refusal::Block(k) => {
-            io::write_all(STDERR_FILENO, b"block ");
-            io::print_decimal(STDERR_FILENO, k as u64);
-            io::write_all(STDERR_FILENO, b": ");
-        }
-        Refusal::Step(j) => {
-            io::write_all(STDERR_FILENO, b"step ");
-            io::print_decimal(STDERR_FILENO, j as u64);
-            io::write_all(STDERR_FILENO, b": ");
-        }
-        Refusal::Length => {}
-        Refusal::Room => {}
-    }
-    io::write_all(STDERR_FILENO, b"refused ");
-    io::print_decimal(STDERR_FILENO, r.number() as u64);
-    io::write_all(STDERR_FILENO, b"\n");
+// What is wrong with a file, in one write.
+fn print_complaint(r: Refusal, text: &mut [u8]) {
+    let n = complain(r, text, 0);
+    io::write_all(STDERR_FILENO, &text[..n]);
 }
 
 // The text in one write, or the complaint.
@@ -45,7 +30,7 @@ fn print_text(file: &[u8], text: &mut [u8]) {
         Shown::Text(n) => {
             io::write_all(STDOUT_FILENO, &text[..n]);
         }
-        Shown::Refused(r) => complain(r),
+        Shown::Refused(r) => print_complaint(r, text),
     }
 }
 

@@ -3,14 +3,18 @@
 ghost use mathlib.Core.Path.{_≡_};
 ghost use Prim.Native.Nat.{_+_, _*_, _≤_};
 ghost use lib.ListN.{length};
-ghost use Rattle.text.specs.Adding.{Added};
+ghost use Rattle.text.specs.Adding.{withAddedIn, behindIn, Added};
 ghost use Rattle.showing.specs.Show.{lineOfNext, textTo, shown, leftBy};
+ghost use Rattle.showing.specs.Complaint.{front, complaint};
 use reader::nth;
 use script::Checked;
 use script::Next;
 use script::Refusal;
 use script::check_file;
 use spelling::add_step;
+use text::add;
+use text::add_place;
+use text::add_refused;
 
 // What showing a file answers: how many bytes of text there are, or the refusal.
 pub enum Shown {
@@ -59,4 +63,41 @@ pub fn show(file: &[u8], out: &mut [u8]) -> Shown
         }
         Checked::Refused(r) => Shown::Refused(r),
     }
+}
+
+// Where a file is not right.
+fn put_front(out: &mut [u8], at: usize, r: Refusal) -> usize
+    requires { ⌜ at + 80 ≤ length (now out) ⌝ }
+    ensures { λ e. ⌜ Added (now (out .entry)) at (front r) (now (out .exit)) e ⌝ }
+{
+    match r {
+        Refusal::Block(k) => add_place(out, at, b"show: block ", k),
+        Refusal::Step(j) => add_place(out, at, b"show: step ", j),
+        Refusal::Length => add(out, at, b"show: "),
+        Refusal::Room => add(out, at, b"show: "),
+    }
+}
+
+// What is said of a file that is refused.
+fn put_complaint(out: &mut [u8], at: usize, r: Refusal) -> usize
+    requires { ⌜ at + 80 ≤ length (now out) ⌝ }
+    ensures { λ e. ⌜ Added (now (out .entry)) at (complaint r) (now (out .exit)) e ⌝ }
+{
+    let what = put_front(out, at, r);
+    add_refused(out, what, r.number() as usize)
+}
+
+// What is said of a file that is refused, in one line behind what stands in an output, if there is room for 80 bytes; where the next
+// byte goes.
+pub fn complain(r: Refusal, out: &mut [u8], at: usize) -> usize
+    ensures { λ e. ⌜ e ≡ behindIn 80 (now (out .entry)) at (complaint r) ⌝ }
+    ensures { λ e. ⌜ now (out .exit) ≡ withAddedIn 80 (now (out .entry)) at (complaint r) ⌝ }
+{
+    if out.len() < 80 {
+        return at;
+    }
+    if out.len() - 80 < at {
+        return at;
+    }
+    put_complaint(out, at, r)
 }

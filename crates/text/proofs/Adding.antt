@@ -3,12 +3,17 @@
 use Prim.Native.Nat.{ℕ, _+_, _≤_, _<_}
 use native.Mathlib.Omega.{arith}
 use native.Mathlib.Numerals.{add-one}
-use mathlib.Core.Path.{_≡_, sym, ap, _∙_}
+use mathlib.Core.Bool.{Bool, true, false, cond}
+use mathlib.Core.Path.{refl, _≡_, sym, ap, _∙_}
 use mathlib.Core.List.{List, [], _++_}
+use lib.Dec.{leb}
 use lib.ListN.{length, getD, set, length-append}
 use lib.Seq.{paste, paste-suc}
-use borrow.Author.Tests.{le-leb, lt-leb}
+use borrow.Author.Tests.{le-leb, lt-leb, leb-true}
 use Rattle.lists.proofs.Put.{put-nil, put-then, length-put, paste-put}
+use Rattle.text.specs.Digits.{decimal}
+use Rattle.text.specs.Refused.{refused, placed}
+use Rattle.text.proofs.DigitLaws.{decimal-most}
 use Rattle.text.specs.Adding.{withAddedIn, behindIn, withAdded, behind, Added}
 
 -- ---- room
@@ -24,6 +29,15 @@ module _ (room : ℕ) (o : List ℕ) (at : ℕ) (x : List ℕ) where
   pub in-added : at + room ≤ length o → {o₁ : List ℕ} {r : ℕ} → Added o at x o₁ r → (r ≡ behindIn room o at x) × (o₁ ≡ withAddedIn room o at x)
   unfolding withAddedIn behindIn
   in-added h a = (a .next ∙ rw (le-leb _ _ h), a .now ∙ rw (le-leb _ _ h))
+
+-- the next place lies within the output
+pub behind-within : (room : ℕ) (o : List ℕ) (at : ℕ) (x : List ℕ) → length x ≤ room → at ≤ length o → behindIn room o at x ≤ length o
+unfolding behindIn
+behind-within room o at x few h = go (leb (at + room) (length o)) refl
+  where
+    go : (b : Bool) → leb (at + room) (length o) ≡ b → cond b (at + length x) at ≤ length o
+    go true e = let k : at + room ≤ length o = leb-true _ _ e in omega arith
+    go false e = h
 
 pub added-fits : (o : List ℕ) (at : ℕ) (x : List ℕ) → at + length x ≤ length o → {o₁ : List ℕ} {r : ℕ} → r ≡ behind o at x → o₁ ≡ withAdded o at x
     → Added o at x o₁ r
@@ -53,3 +67,18 @@ added-append {o} {at} {x} {o₁} {e₁} {y} {o₂} {e₂} s t h =
     let ny : e₂ ≡ e₁ + length y = t .next in
     let l : length (x ++ y) ≡ length x + length y = length-append x y in
     record { now = put-then o x y at e₁ (s .now) (t .now) nx (omega arith); next = omega arith }
+
+-- bytes behind others, where there is room for the longest
+pub then-in : (room : ℕ) {o : List ℕ} {at : ℕ} {x : List ℕ} {o₁ : List ℕ} {e₁ : ℕ} (y : List ℕ) → length y ≤ room → Added o at x o₁ e₁ → e₁ + room ≤ length o
+    → {o₂ : List ℕ} {e₂ : ℕ} → e₂ ≡ behindIn room o₁ e₁ y → o₂ ≡ withAddedIn room o₁ e₁ y → Added o at (x ++ y) o₂ e₂
+then-in room {o} {at} {x} {o₁} {e₁} y few s h a b =
+    let same : length o₁ ≡ length o = added-length s (omega arith) in
+    let t = added-in room o₁ e₁ y (omega arith) a b in
+    added-append s t (omega (arith, t .next))
+
+-- ---- how long the line of a refusal and a place are
+pub refused-most : (n : ℕ) → length (refused n) ≤ 29
+refused-most n = let h : length (decimal n) ≤ 20 = decimal-most 20 n in simp length-append (omega arith)
+
+pub placed-most : (word : List ℕ) (k : ℕ) → length (placed word k) ≤ length word + 22
+placed-most word k = let h : length (decimal k) ≤ 20 = decimal-most 20 k in simp length-append (omega arith)

@@ -4,7 +4,7 @@ ghost use mathlib.Core.Path.{_≡_};
 ghost use Prim.Native.Nat.{_+_, _≤_};
 ghost use lib.ListN.{length};
 ghost use Rattle.text.specs.Digits.{lastDigit, decimalIn, decimal};
-ghost use Rattle.text.specs.Refused.{refused};
+ghost use Rattle.text.specs.Refused.{refused, placed};
 ghost use Rattle.text.specs.Adding.{withAddedIn, behindIn, withAdded, behind, Added};
 
 // The last hexadecimal digit of a number.
@@ -93,4 +93,31 @@ pub fn add_refused(out: &mut [u8], at: usize, number: usize) -> usize
         return at;
     }
     put_refused(out, at, number)
+}
+
+// A place, behind what stands in an output with room for it.
+fn put_place(out: &mut [u8], at: usize, word: &[u8], k: usize) -> usize
+    requires { ⌜ at + (length (now word) + 22) ≤ length (now out) ⌝ }
+    ensures { λ r. ⌜ Added (now (out .entry)) at (placed (now (word .entry)) k) (now (out .exit)) r ⌝ }
+{
+    let first = copy(out, at, word);
+    let end = put_decimal(out, first, k, 20);
+    copy(out, end, b": ")
+}
+
+// A place, as `show: block 3: `, if there is room for its word and 22 bytes; where the next byte goes.
+pub fn add_place(out: &mut [u8], at: usize, word: &[u8], k: usize) -> usize
+    ensures { λ r. ⌜ r ≡ behindIn (length (now (word .entry)) + 22) (now (out .entry)) at (placed (now (word .entry)) k) ⌝ }
+    ensures { λ r. ⌜ now (out .exit) ≡ withAddedIn (length (now (word .entry)) + 22) (now (out .entry)) at (placed (now (word .entry)) k) ⌝ }
+{
+    if out.len() < 22 {
+        return at;
+    }
+    if out.len() - 22 < word.len() {
+        return at;
+    }
+    if out.len() - 22 - word.len() < at {
+        return at;
+    }
+    put_place(out, at, word, k)
 }

@@ -12,11 +12,11 @@ use Rattle.composing.proofs.Gathering.{composed-within}
 use Rattle.compose.proofs.print_file.Statement.{statement}
 use Rattle.compose.proofs.print_file.Tie as tie
 
-within : (c : tie.After-known-told) → 512 * c .before .n .given .0 .0 ≤ length (c .before .before .before .before .before .compose .last .1 .0)
+within : (c : tie.After-known-told) → 512 * c .before .c .given .0 .0 ≤ length (c .before .before .before .before .before .compose .last .1 .0)
 within c =
     let d = c .before .before .before .before .before .compose in
     let a = c .before .before .before .before .before .before .before .before .before .args in
-    omega (arith, composed-within (linesOf (now (a .text))) 0 [] (length (now (a .file))) _ (sym (d .ensures .0) ∙ c .before .n .given .1), d .kept .1 .0)
+    omega (arith, composed-within (linesOf (now (a .text))) 0 [] (length (now (a .file))) _ (sym (d .ensures .0) ∙ c .before .c .given .1), d .kept .1 .0)
 
 pub print-file-spec : {M : Type 1} → statement M
 print-file-spec =
@@ -24,20 +24,12 @@ print-file-spec =
     (tie.spec
     (λ c κs. search needs)
     (λ c. search needs)
+    (λ c κs. search needs)
+    (λ c. search needs)
+    (λ c. search needs)
     (λ c. omega (arith, within c))
     (λ c. within c)
     (λ c. sym (length-take-le _ _ (within (c .before))))
     (λ c κs. search needs)
-    (λ c. search needs)
-    (λ c κs. search needs)
-    (λ c. search needs)
-    (λ c. search needs)
-    (λ c κs. search needs)
-    (λ c κs. search needs)
-    (λ c κs. search needs)
-    (λ c. search needs)
-    (λ c. search needs)
-    (λ c. search needs)
-    (λ c. search needs)
     (λ c. search needs)
     (λ c. search needs))

@@ -1,0 +1,24 @@
+-- No room, and room for the longest.
+use Prim.Native.Nat.{_+_}
+use native.Mathlib.Omega.{arith}
+use denote.Ref.{now}
+use borrow.Author.Needs.{needs}
+use lib.ListN.{length}
+use Rattle.text.specs.Refused.{placed}
+use Rattle.text.proofs.Adding.{none-in, in-added}
+use Rattle.text.proofs.add_place.Statement.{statement}
+use Rattle.text.proofs.add_place.Tie as tie
+
+pub add-place-spec : {M : Type 1} → statement M
+add-place-spec =
+    tie.close
+    (tie.spec
+    (λ c. let a = c .before .before .before .args in none-in (length (now (a .word)) + 22) (now (a .out)) (a .at) (placed (now (a .word)) (a .k)) (omega arith))
+    (λ c. search needs)
+    (λ c. let a = c .before .before .before .before .args in none-in (length (now (a .word)) + 22) (now (a .out)) (a .at) (placed (now (a .word)) (a .k)) (omega arith))
+    (λ c. search needs)
+    (λ c. search needs)
+    (λ c. let a = c .before .before .before .before .before .args in none-in (length (now (a .word)) + 22) (now (a .out)) (a .at) (placed (now (a .word)) (a .k)) (omega arith))
+    (λ c κs. search needs)
+    (λ c. search needs)
+    (λ c. let a = c .before .before .before .before .before .before .before .before .before .args in in-added (length (now (a .word)) + 22) (now (a .out)) (a .at) (placed (now (a .word)) (a .k)) (omega arith) (c .before .before .put-place .ensures)))
