@@ -8,11 +8,12 @@ use mathlib.Core.List.{List}
 use lib.Dec.{ltb}
 use lib.ListN.{length}
 use borrow.Author.Tests.{lt-ltb, le-ltb, ltb-false}
-use Rattle.lists.specs.Numbers.{Returned, returned}
+use Rattle.lists.specs.Numbers.{returned}
 use Rattle.lists.specs.Put.{put}
 use Rattle.lists.proofs.Tests.{of-cond}
 use Rattle.steps.specs.declared.Step.{Step}
 use Rattle.script.specs.File.{wholeBlocks, blocks, firstBadBlock, stepCount, stepsChecked, checked}
+use Rattle.script.specs.Numbers.{stepsTable}
 use Rattle.script.specs.Reader.{nextOf}
 use Rattle.script.specs.declared.Checked.{Checked}
 use Rattle.script.specs.declared.Checked.the-variants.{Accepted, Refused as NotAccepted}
@@ -79,17 +80,17 @@ translated-says f room k is = go (checked f) refl is
 pub translated-number : (f : List ℕ) (room : ℕ) → numbersOf (translated f room) ≡ translationTable f room
 unfolding translated checked
 translated-number f room =
-    of-cond numbers (not (wholeBlocks f)) (NotAccepted Length) (cond (ltb (firstBadBlock f) (blocks f)) (NotAccepted (Block (firstBadBlock f))) steps)
-    ∙ ap (λ (x : Returned). cond (not (wholeBlocks f)) (returned 8 0) x)
-    (of-cond numbers (ltb (firstBadBlock f) (blocks f)) (NotAccepted (Block (firstBadBlock f))) steps
-    ∙ ap (λ (x : Returned). cond (ltb (firstBadBlock f) (blocks f)) (returned 6 (firstBadBlock f)) x)
-    (steps-number numbers (λ r. refl) Blocks f (stepCount f) ∙ simp (of-cond numbersOf)))
+    go (not (wholeBlocks f)) (ltb (firstBadBlock f) (blocks f))
   where
-    abbrev numbers : Checked → Returned
-    numbers c = numbersOf (ifRoom c f room)
-
-    abbrev steps : Checked
-    steps = stepsChecked Blocks f (stepCount f)
+    go : (a b : Bool)
+        → numbersOf (ifRoom (cond a (NotAccepted Length) (cond b (NotAccepted (Block (firstBadBlock f))) (stepsChecked Blocks f (stepCount f)))) f room)
+        ≡ cond a (returned 8 0) (cond b (returned 6 (firstBadBlock f)) (stepsTable Blocks f (stepCount f)
+        (cond (ltb room (32 * stepCount f)) (returned 9 0) (returned 0 (begins f (stepCount f))))))
+    go true b = refl
+    go false true = refl
+    go false false =
+        steps-number (λ c. numbersOf (ifRoom c f room)) (λ r. refl) Blocks f (stepCount f)
+        ∙ ap (stepsTable Blocks f (stepCount f)) (of-cond numbersOf (ltb room (32 * stepCount f)) (Refused Room) (Commands (begins f (stepCount f))))
 
 -- what the contract of `translate` says, from the answer and the output
 pub translated-answered : (f o : List ℕ) {r : Translated} {o′ : List ℕ} → r ≡ translated f (length o) → o′ ≡ leftBy r f o
