@@ -331,6 +331,22 @@ fn cases() -> Vec<(Vec<[u8; 6]>, u8, usize)> {
     ]
 }
 
+/// A step on every index of every group, SET and FIELD, checked.
+fn singles(rows: &Rows, r: &mut Random) -> [usize; 2] {
+    let (mut tried, mut tally) = (0, Tally::default());
+    for (group, index) in (0..=9).flat_map(|g| (0..=255).map(move |i| (g, i))) {
+        let mask = r.byte();
+        for step in [[1, group, index, r.byte(), 0, 0], [2, group, index, r.byte() & mask, mask, 0], [2, group, index, 0, 0, 0]] {
+            let file = script::file(&step);
+            let checked = library::check_script(&file);
+            expect(&format!("step {step:02X?}"), checked, script::check(rows, &file));
+            tally.add(checked.0);
+            tried += 1;
+        }
+    }
+    [tried, tally.idle]
+}
+
 /// These lists written, and as files checked, translated and played, by the library and by the model: the number and the step are the
 /// ones that are due, also where the output is too small, and a refusal changes no byte of the file, the commands or the state.
 fn judged(rows: &Rows, r: &mut Random) -> usize {
@@ -496,6 +512,8 @@ fn main() {
     println!("{} bytes of memory agree", memory(r, 10_000));
     println!("{} transfers of 100000 are done and agree, the others are refused alike", transfers(r, 100_000));
     println!("{} lists of steps are judged as is due", judged(&rows, r));
+    let [steps, idle] = singles(&rows, r);
+    println!("{steps} single steps agree, {idle} of them refused with 11");
     let [written, checked, translated] = scripts(&rows, r, 20_000);
     println!(
         "20000 scripts agree: {} written, {} accepted, {} translated, the others refused alike, with 11 {}, {} and {} of them",
