@@ -37,7 +37,7 @@ extern "C" {
 #define CHIPS69000_FILE_LENGTH 8     /* file not 1 to 12 whole blocks, or step list not 1 to 1,008 whole steps */
 #define CHIPS69000_ROOM 9            /* lent output too small: 32 bytes a step (commands), 512 a block (files) */
 #define CHIPS69000_COMMAND 10        /* command bytes not a multiple of 4, or a command of no known form */
-#define CHIPS69000_IDLE 11           /* a SET or FIELD step whose register has no writable bit; the value is its number */
+#define CHIPS69000_IDLE 11           /* a step can do nothing: no bit of its register can be written; the value is its number */
 #define CHIPS69000_NO_STATE 255      /* the state's length is not CHIPS69000_STATE_SIZE */
 
 /* ---- The state. */

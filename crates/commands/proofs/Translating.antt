@@ -12,14 +12,16 @@ use Rattle.lists.specs.Numbers.{returned}
 use Rattle.lists.specs.Put.{put}
 use Rattle.lists.proofs.Tests.{of-cond}
 use Rattle.steps.specs.declared.Step.{Step}
-use Rattle.script.specs.File.{wholeBlocks, blocks, firstBadBlock, stepCount, firstBadStep, checked}
+use Rattle.script.specs.File.{wholeBlocks, blocks, firstBadBlock, stepCount, stepsChecked, checked}
+use Rattle.script.specs.Numbers.{stepsTable}
 use Rattle.script.specs.Reader.{nextOf}
 use Rattle.script.specs.declared.Checked.{Checked}
 use Rattle.script.specs.declared.Checked.the-variants.{Accepted, Refused as NotAccepted}
 use Rattle.script.specs.declared.Next.the-variants.{Found}
-use Rattle.script.specs.declared.Refusal.the-variants.{Length, Block, Step as NoStep, Room}
+use Rattle.script.specs.declared.Refusal.the-variants.{Length, Block, Room}
 use Rattle.script.specs.declared.Layout.the-variants.{Blocks}
 use Rattle.script.proofs.Checking.{Legal, answer-says}
+use Rattle.script.proofs.StepLaws.{steps-number}
 use Rattle.commands.specs.Command.{bytesOfAll}
 use Rattle.commands.specs.Expansion.{expanded, commandsOf}
 use Rattle.commands.specs.Translation.{stepsTo, commandsTo, begins, Sent, ifRoom, translated, leftBy, numbersOf, translationTable}
@@ -78,17 +80,17 @@ translated-says f room k is = go (checked f) refl is
 pub translated-number : (f : List ℕ) (room : ℕ) → numbersOf (translated f room) ≡ translationTable f room
 unfolding translated checked
 translated-number f room =
-    go (not (wholeBlocks f)) (ltb (firstBadBlock f) (blocks f)) (ltb (firstBadStep Blocks f (stepCount f)) (stepCount f))
+    go (not (wholeBlocks f)) (ltb (firstBadBlock f) (blocks f))
   where
-    go : (a b d : Bool)
-        → numbersOf (ifRoom (cond a (NotAccepted Length) (cond b (NotAccepted (Block (firstBadBlock f)))
-        (cond d (NotAccepted (NoStep (firstBadStep Blocks f (stepCount f)))) (Accepted (stepCount f))))) f room)
-        ≡ cond a (returned 8 0) (cond b (returned 6 (firstBadBlock f)) (cond d (returned 7 (firstBadStep Blocks f (stepCount f)))
+    go : (a b : Bool)
+        → numbersOf (ifRoom (cond a (NotAccepted Length) (cond b (NotAccepted (Block (firstBadBlock f))) (stepsChecked Blocks f (stepCount f)))) f room)
+        ≡ cond a (returned 8 0) (cond b (returned 6 (firstBadBlock f)) (stepsTable Blocks f (stepCount f)
         (cond (ltb room (32 * stepCount f)) (returned 9 0) (returned 0 (begins f (stepCount f))))))
-    go true b d = refl
-    go false true d = refl
-    go false false true = refl
-    go false false false = of-cond numbersOf (ltb room (32 * stepCount f)) (Refused Room) (Commands (begins f (stepCount f)))
+    go true b = refl
+    go false true = refl
+    go false false =
+        steps-number (λ c. numbersOf (ifRoom c f room)) (λ r. refl) Blocks f (stepCount f)
+        ∙ ap (stepsTable Blocks f (stepCount f)) (of-cond numbersOf (ltb room (32 * stepCount f)) (Refused Room) (Commands (begins f (stepCount f))))
 
 -- what the contract of `translate` says, from the answer and the output
 pub translated-answered : (f o : List ℕ) {r : Translated} {o′ : List ℕ} → r ≡ translated f (length o) → o′ ≡ leftBy r f o

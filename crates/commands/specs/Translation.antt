@@ -1,4 +1,5 @@
--- A whole script file translated into its commands: document 01, "Commands" and "Numbers returned", 8, 6, 7 and 9 in that order.
+-- A whole script file translated into its commands: document 01, "Commands" and "Numbers returned", 8, 6, 7 or, by document 02, P2, 11,
+-- and 9 in that order.
 -- Where a step's commands begin is how many commands the steps before it have.
 use Prim.Native.Nat.{ℕ, zero, suc, _+_, _*_}
 use mathlib.Core.Bool.{cond, not}
@@ -8,10 +9,10 @@ use lib.Dec.{ltb}
 use lib.ListN.{length}
 use Rattle.lists.specs.Put.{put}
 use Rattle.steps.specs.declared.Step.{Step}
-use Rattle.script.specs.File.{wholeBlocks, blocks, firstBadBlock, stepCount, firstBadStep, checked}
+use Rattle.script.specs.File.{wholeBlocks, blocks, firstBadBlock, stepCount, checked}
 use Rattle.script.specs.Reader.{nextOf}
 use Rattle.lists.specs.Numbers.{Returned, returned}
-use Rattle.script.specs.Numbers.{ofRefusal}
+use Rattle.script.specs.Numbers.{ofRefusal, stepsTable}
 use Rattle.script.specs.declared.Layout.the-variants.{Blocks}
 use Rattle.script.specs.declared.Refusal.the-variants.{Room}
 use Rattle.script.specs.declared.Checked.{Checked}
@@ -60,12 +61,12 @@ abbrev pub numbersOf : Translated → Returned
 numbersOf (Commands k) = returned 0 k
 numbersOf (Refused r) = ofRefusal r
 
--- the table of numbers for a translation, in its order: 8, 6, 7, 9
+-- the table of numbers for a translation, in its order: 8, 6, 7 or 11, 9
 abbrev pub translationTable : List ℕ → ℕ → Returned
 translationTable f room =
     cond (not (wholeBlocks f)) (returned 8 0)
     (cond (ltb (firstBadBlock f) (blocks f)) (returned 6 (firstBadBlock f))
-    (cond (ltb (firstBadStep Blocks f (stepCount f)) (stepCount f)) (returned 7 (firstBadStep Blocks f (stepCount f)))
+    (stepsTable Blocks f (stepCount f)
     (cond (ltb room (32 * stepCount f)) (returned 9 0)
     (returned 0 (begins f (stepCount f))))))
 

@@ -259,7 +259,7 @@ fn put_steps(file: &[u8], m: usize, out: &mut [u8]) -> usize
     at
 }
 
-// A script file translated into commands: 8, then 6, then 7, then 9; else how many there are.
+// A script file translated into commands: 8, then 6, then 7 or 11, then 9; else how many there are.
 pub fn translate(file: &[u8], out: &mut [u8]) -> Translated
     ensures { λ r. ⌜ r ≡ translated (now (file .entry)) (length (now (out .entry))) ⌝ }
     ensures { λ r. ⌜ now (out .exit) ≡ leftBy r (now (file .entry)) (now (out .entry)) ⌝ }

@@ -1,4 +1,4 @@
--- What an answer of `compose` can be. A line that it reports is not fine; the steps that it gathers are legal and at most 1,008, so that
+-- What an answer of `compose` can be. A line that it reports is not fine; the steps that it gathers pass and are at most 1,008, so that
 -- the writer refuses them for two reasons alone: there is none, or there is too little room, which 6,144 bytes always are.
 use Prim.Native.Nat.{ℕ, _+_, _*_, _/_, _≤_, _<_}
 use native.Mathlib.Omega.{arith}
@@ -13,10 +13,12 @@ use lib.Seq.{take-all, take-append-le, drop-append-le, drop-append-seam}
 use borrow.Author.Tests.{ltb-true}
 use Rattle.lists.proofs.Scan.{first-end}
 use Rattle.lists.proofs.Tests.{units-test}
-use Rattle.steps.specs.Step.{legal, bytesOf, stepOf, isGood}
+use Rattle.steps.specs.Step.{bytesOf, stepOf, judged, isGood}
 use Rattle.steps.specs.declared.Step.{Step}
+use Rattle.steps.specs.declared.StepRead.{StepRead}
 use Rattle.steps.specs.declared.StepRead.the-variants.{Good, Refused as NoStep}
 use Rattle.steps.proofs.Codec.{read-written, bytes-length}
+use Rattle.steps.proofs.Lawful.{good-passes}
 use Rattle.script.specs.File.{stepAt, firstBadStep}
 use Rattle.script.specs.declared.Layout.the-variants.{Plain}
 use Rattle.script.specs.declared.Refusal.{Refusal}
@@ -29,12 +31,12 @@ use Rattle.writer.specs.declared.Written.{Written}
 use Rattle.writer.specs.declared.Written.the-variants.{Blocks as InBlocks, Refused as NotWritten}
 use Rattle.writer.proofs.Writing.{BadStep, answer-says}
 use Rattle.composing.specs.Lines.{linesOf}
-use Rattle.composing.specs.Compose.{verdict, withLine, orStop, ofWriter, composedFrom, composed, gathered}
+use Rattle.composing.specs.Compose.{stepVerdict, verdict, withLine, orStop, ofWriter, composedFrom, composed, gathered}
 use Rattle.composing.specs.declared.Verdict.{Verdict}
-use Rattle.composing.specs.declared.Verdict.the-variants.{Fine, Form, Step as NotLegal, Many}
+use Rattle.composing.specs.declared.Verdict.the-variants.{Fine, Form, Step as Faulty, Many}
 use Rattle.composing.specs.declared.Composed.the-variants.{Stopped, Refused}
 
--- ---- steps that are all legal, and not too many
+-- ---- steps that all pass, and are not too many
 record Gathered (s : List ℕ) : Type 0 where
   whole : length s ≡ 6 * (length s / 6)
   few : length s ≤ 6048
@@ -43,7 +45,7 @@ record Gathered (s : List ℕ) : Type 0 where
 no-steps : Gathered []
 no-steps = record { whole = refl; few = omega arith; each = λ j h. absurd (omega (arith, h)) }
 
-module _ (s : List ℕ) (g : Gathered s) (x : Step) (ok : legal x ≡ true) (room : length s < 6048) where
+module _ (s : List ℕ) (g : Gathered s) (x : Step) (ok : judged x ≡ Good x) (room : length s < 6048) where
   -- a step that stood there, and the new one
   stays : (j : ℕ) → 6 * j + 6 ≤ length s → stepAt Plain (s ++ bytesOf x) j ≡ stepAt Plain s j
   stays j h =
@@ -57,7 +59,7 @@ module _ (s : List ℕ) (g : Gathered s) (x : Step) (ok : legal x ≡ true) (roo
       ∙ ap (λ (l : List ℕ). stepOf (take 6 l)) (drop-append-seam s (bytesOf x))
       ∙ ap stepOf (take-all 6 (bytesOf x) (omega (arith, bytes-length x)))
       ∙ read-written x
-      ∙ ap (λ (b : Bool). cond b (Good x) NoStep) ok
+      ∙ ok
 
   step-more : Gathered (s ++ bytesOf x)
   step-more =
@@ -80,12 +82,15 @@ module _ (s : List ℕ) (g : Gathered s) (x : Step) (ok : legal x ≡ true) (roo
 line-more : (l : Line) (s : List ℕ) → Gathered s → verdict l (length s) ≡ Fine → Gathered (withLine l s)
 line-more Pass s g e = g
 line-more Other s g e = g
-line-more (Is x) s g e = go (legal x) refl (ltb (length s) 6048) refl e
+line-more (Is x) s g e = go (judged x) refl e
   where
-    go : (a : Bool) → legal x ≡ a → (b : Bool) → ltb (length s) 6048 ≡ b → cond a (cond b Fine Many) NotLegal ≡ Fine → Gathered (s ++ bytesOf x)
-    go true ok true room e = step-more s g x ok (ltb-true _ _ room)
-    go true ok false room e = absurd (let z : _≡_ {A = ℕ} 0 1 = cc in omega arith)
-    go false ok b room e = absurd (let z : _≡_ {A = ℕ} 0 1 = cc in omega arith)
+    few : (q : Step) → judged x ≡ Good q → (b : Bool) → ltb (length s) 6048 ≡ b → cond b Fine Many ≡ Fine → Gathered (s ++ bytesOf x)
+    few q ok true room t = step-more s g x (ok ∙ ap Good (sym (good-passes x q ok .0))) (ltb-true _ _ room)
+    few q ok false room t = absurd (let z : _≡_ {A = ℕ} 0 1 = cc in omega arith)
+
+    go : (r : StepRead) → judged x ≡ r → stepVerdict r (length s) ≡ Fine → Gathered (s ++ bytesOf x)
+    go (Good q) ok t = few q ok (ltb (length s) 6048) refl t
+    go (NoStep why) ok t = absurd (let z : _≡_ {A = ℕ} 0 1 = cc in omega arith)
 
 -- ---- what the writer can then refuse
 abbrev pub Reason : List ℕ → ℕ → Refusal → Type 0
@@ -105,10 +110,10 @@ module _ (s : List ℕ) (g : Gathered s) (room : ℕ) where
   reasons : (r : Refusal) → written s room ≡ NotWritten r → Reason s room r
   reasons Length e = inl (refl, empty s (none-left (ℕ-discrete (length s) 0) (answer-says s room e)))
   reasons (Block k) e = absurd (answer-says s room e)
-  reasons (IsStep j) e =
-      let bad : BadStep s j = answer-says s room e in
+  reasons (IsStep j why) e =
+      let bad : BadStep s j why = answer-says s room e in
       let end : firstBadStep Plain s (length s / 6) ≡ length s / 6 = first-end (λ i. isGood (stepAt Plain s i)) (length s / 6) (g .each) in
-      absurd (omega (arith, bad .first, bad .there))
+      absurd (omega (arith, bad .bad .first, bad .bad .there))
   reasons Room e =
       let short : room < 512 * blocksFor s = answer-says s room e .1 in
       inr (refl, omega (arith, g .few))
@@ -129,7 +134,7 @@ answers (l ∷ ls) k s g room r e =
         → orStop v k (composedFrom (k + 1) (withLine (lineOf l) s) ls room) ≡ Refused r → Reason (gathered (withLine (lineOf l) s) ls) room r
     go Fine is rest t = rest is t
     go Form is rest t = absurd (let z : _≡_ {A = ℕ} 0 1 = cc in omega arith)
-    go NotLegal is rest t = absurd (let z : _≡_ {A = ℕ} 0 1 = cc in omega arith)
+    go (Faulty why) is rest t = absurd (let z : _≡_ {A = ℕ} 0 1 = cc in omega arith)
     go Many is rest t = absurd (let z : _≡_ {A = ℕ} 0 1 = cc in omega arith)
 
 -- a text whose lines are all fine is refused for having no step, 8, or for too little room, 9; in 6,144 bytes for no step alone
@@ -150,7 +155,7 @@ stopped-bad (l ∷ ls) k s room n e = go (verdict (lineOf l) (length s)) (stoppe
         → orStop v k (composedFrom (k + 1) (withLine (lineOf l) s) ls room) ≡ Stopped Fine n → ⊥
     go Fine rest t = rest t
     go Form rest t = let z : _≡_ {A = ℕ} 0 1 = cc in omega arith
-    go NotLegal rest t = let z : _≡_ {A = ℕ} 0 1 = cc in omega arith
+    go (Faulty why) rest t = let z : _≡_ {A = ℕ} 0 1 = cc in omega arith
     go Many rest t = let z : _≡_ {A = ℕ} 0 1 = cc in omega arith
 
 pub stopped-why : (text : List ℕ) (room n : ℕ) → composed text room ≡ Stopped Fine n → ⊥

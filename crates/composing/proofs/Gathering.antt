@@ -10,8 +10,10 @@ use lib.Seq.{take-at, length-take-le}
 use borrow.Author.Tests.{ltb-true}
 use Rattle.text.specs.Adding.{Added}
 use Rattle.text.proofs.Adding.{added-length}
-use Rattle.steps.specs.Step.{legal, bytesOf}
+use Rattle.steps.specs.Step.{judged, bytesOf}
 use Rattle.steps.specs.declared.Step.{Step}
+use Rattle.steps.specs.declared.StepRead.{StepRead}
+use Rattle.steps.specs.declared.StepRead.the-variants.{Good, Refused as NoStep}
 use Rattle.steps.proofs.Codec.{bytes-length}
 use Rattle.spelling.specs.Reading.{lineOf}
 use Rattle.spelling.specs.declared.Line.{Line}
@@ -22,7 +24,7 @@ use Rattle.writer.specs.declared.Written.{Written}
 use Rattle.writer.specs.declared.Written.the-variants.{Blocks as InBlocks, Refused as NotWritten}
 use Rattle.writer.proofs.Writing.{answer-says}
 use Rattle.composing.specs.Lines.{linesFrom, linesOf}
-use Rattle.composing.specs.Compose.{verdict, withLine, orStop, ofWriter, composedFrom, gathered, composed, leftBy}
+use Rattle.composing.specs.Compose.{stepVerdict, verdict, withLine, orStop, ofWriter, composedFrom, gathered, composed, leftBy}
 use Rattle.composing.specs.Working.{isFine, part, LineEnds, lineSize, Kept, AllGathered}
 use Rattle.composing.specs.declared.Verdict.{Verdict}
 use Rattle.composing.specs.declared.Verdict.the-variants.{Fine, Form, Step as BadStep, Many}
@@ -63,23 +65,26 @@ going-start t o h = record { answer = λ room. refl; steps = refl; few = omega a
 fine-few : (l : Line) (n : ℕ) → verdict l n ≡ Fine → n ≤ 6053 → n + lineSize l ≤ 6053
 fine-few Pass n e h = omega arith
 fine-few Other n e h = omega arith
-fine-few (Is s) n e h = go (legal s) (ltb n 6048) refl e
+fine-few (Is s) n e h = go (judged s) e
   where
-    go : (a b : Bool) → ltb n 6048 ≡ b → cond a (cond b Fine Many) BadStep ≡ Fine → n + 6 ≤ 6053
-    go true true f e = let k : n < 6048 = ltb-true _ _ f in omega arith
-    go true false f e = absurd (let z : _≡_ {A = ℕ} 0 1 = cc in omega arith)
-    go false b f e = absurd (let z : _≡_ {A = ℕ} 0 1 = cc in omega arith)
+    few : (b : Bool) → ltb n 6048 ≡ b → cond b Fine Many ≡ Fine → n + 6 ≤ 6053
+    few true f e = let k : n < 6048 = ltb-true _ _ f in omega arith
+    few false f e = absurd (let z : _≡_ {A = ℕ} 0 1 = cc in omega arith)
+
+    go : (r : StepRead) → stepVerdict r n ≡ Fine → n + 6 ≤ 6053
+    go (Good q) e = few (ltb n 6048) refl e
+    go (NoStep why) e = absurd (let z : _≡_ {A = ℕ} 0 1 = cc in omega arith)
 
 stops : (v : Verdict) (k : ℕ) (rest : Composed) → isFine v ≡ false → orStop v k rest ≡ Stopped v k
 stops Fine k rest e = absurd (let z : _≡_ {A = ℕ} 0 1 = cc in omega arith)
 stops Form k rest e = refl
-stops BadStep k rest e = refl
+stops (BadStep why) k rest e = refl
 stops Many k rest e = refl
 
 fine-only : (v : Verdict) → isFine v ≡ true → v ≡ Fine
 fine-only Fine e = refl
 fine-only Form e = absurd (let z : _≡_ {A = ℕ} 0 1 = cc in omega arith)
-fine-only BadStep e = absurd (let z : _≡_ {A = ℕ} 0 1 = cc in omega arith)
+fine-only (BadStep why) e = absurd (let z : _≡_ {A = ℕ} 0 1 = cc in omega arith)
 fine-only Many e = absurd (let z : _≡_ {A = ℕ} 0 1 = cc in omega arith)
 
 module _ (t o : List ℕ) (from k n : ℕ) (g : Going t o from k n) where
@@ -155,5 +160,5 @@ composed-within (l ∷ ls) k s room n e = go (verdict (lineOf l) (length s)) (co
         → orStop v k (composedFrom (k + 1) (withLine (lineOf l) s) ls room) ≡ Blocks n → 512 * n ≤ room
     go Fine rest t = rest t
     go Form rest t = absurd (let z : _≡_ {A = ℕ} 0 1 = cc in omega arith)
-    go BadStep rest t = absurd (let z : _≡_ {A = ℕ} 0 1 = cc in omega arith)
+    go (BadStep why) rest t = absurd (let z : _≡_ {A = ℕ} 0 1 = cc in omega arith)
     go Many rest t = absurd (let z : _≡_ {A = ℕ} 0 1 = cc in omega arith)

@@ -18,6 +18,7 @@ use Rattle.lists.proofs.Tab.{tab-length}
 use Rattle.lists.proofs.Tests.{and-both}
 use Rattle.text.specs.Digits.{lastDigit, byteDigits}
 use Rattle.steps.specs.Step.{legal, bytesOf}
+use Rattle.steps.proofs.Lawful.{Passes, passes-good}
 use Rattle.steps.specs.declared.Step.{Step}
 use Rattle.steps.specs.declared.Step.the-variants.{Set, Field, Colour}
 use Rattle.script.specs.File.{blocks, stepPlace, checked}
@@ -95,14 +96,16 @@ step-lines : (s : Step) → legal s ≡ true → (r : List ℕ) → linesOf (ste
 step-lines s ok r = ap linesOf (append-assoc (stepText s) (0x0A ∷ []) r) ∙ own-line [] (stepText s) r (step-plain s ok)
 
 -- ---- a step's line adds the step's bytes
-module _ (s : Step) (ok : legal s ≡ true) (bytes : Bytes (bytesOf s)) (k : ℕ) (before : List ℕ) (few : length before < 6048) (r : List ℕ) where
+module _ (s : Step) (ok : Passes s) (bytes : Bytes (bytesOf s)) (k : ℕ) (before : List ℕ) (few : length before < 6048) (r : List ℕ) where
   line-composes : (room : ℕ) → composedFrom k before (linesOf (stepLine s ++ r)) room ≡ composedFrom (k + 1) (before ++ bytesOf s) (linesOf r) room
   unfolding composedFrom
-  line-composes room = rw (step-lines s ok r, reads-back s ok bytes, ok, lt-ltb (length before) 6048 few)
+  line-composes room = rw (step-lines s (ok .lawful) r, reads-back s (ok .lawful) bytes, passes-good s ok, lt-ltb (length before) 6048 few)
 
   line-gathers : gathered before (linesOf (stepLine s ++ r)) ≡ gathered (before ++ bytesOf s) (linesOf r)
   unfolding gathered
-  line-gathers = ap (gathered before) (step-lines s ok r) ∙ ap (λ (l : Line). gathered (withLine l before) (linesOf r)) (reads-back s ok bytes)
+  line-gathers =
+      ap (gathered before) (step-lines s (ok .lawful) r)
+      ∙ ap (λ (l : Line). gathered (withLine l before) (linesOf r)) (reads-back s (ok .lawful) bytes)
 
 -- ---- the steps of an accepted file
 part-bytes : (f : List ℕ) (a : ℕ) → Bytes f → Bytes (take 6 (drop a f))
@@ -122,7 +125,7 @@ module _ (f : List ℕ) (m : ℕ) (bytes : Bytes f) (acc : checked f ≡ Accepte
   record There (j : ℕ) : Type 0 where
     step : Step
     answer : nextOf f j ≡ Found step
-    lawful : legal step ≡ true
+    passes : Passes step
     in-bytes : Bytes (bytesOf step)
     six : take 6 (drop (6 * j) S) ≡ bytesOf step
 
@@ -143,7 +146,7 @@ module _ (f : List ℕ) (m : ℕ) (bytes : Bytes f) (acc : checked f ≡ Accepte
       record {
         step = x;
         answer = hand .answer;
-        lawful = hand .lawful;
+        passes = record { lawful = hand .lawful; useful = hand .useful };
         in-bytes = rw (hand .bytes) (part-bytes f (stepPlace InFile j) bytes);
         six = sym (same .bytes) ∙ ap bytesOf one;
       }
@@ -173,7 +176,7 @@ module _ (f : List ℕ) (m : ℕ) (bytes : Bytes f) (acc : checked f ≡ Accepte
       let t = there n h in
       ap (λ (l : List ℕ). composed l room) (text-split n h r)
       ∙ composes-to n (omega arith) (stepLine (t .step) ++ r) room
-      ∙ line-composes (t .step) (t .lawful) (t .in-bytes) n (take (6 * n) S) (below n h) r room
+      ∙ line-composes (t .step) (t .passes) (t .in-bytes) n (take (6 * n) S) (below n h) r room
       ∙ ap (λ (l : List ℕ). composedFrom (n + 1) l (linesOf r) room) (steps-next n h)
       ∙ ap (λ (k : ℕ). composedFrom k (take (6 * suc n) S) (linesOf r) room) (add-one n)
 
@@ -184,7 +187,7 @@ module _ (f : List ℕ) (m : ℕ) (bytes : Bytes f) (acc : checked f ≡ Accepte
       let t = there n h in
       ap (λ (l : List ℕ). gathered [] (linesOf l)) (text-split n h r)
       ∙ gathers-to n (omega arith) (stepLine (t .step) ++ r)
-      ∙ line-gathers (t .step) (t .lawful) (t .in-bytes) n (take (6 * n) S) (below n h) r
+      ∙ line-gathers (t .step) (t .passes) (t .in-bytes) n (take (6 * n) S) (below n h) r
       ∙ ap (λ (l : List ℕ). gathered l (linesOf r)) (steps-next n h)
 
   all-steps : take (6 * m) S ≡ S

@@ -1,5 +1,5 @@
 -- What is said of an answer of `compose`, in one line: what is wrong, and in which line of the text, counted from 1 as an editor counts
--- them. `compose: line 3: not a step`, `compose: line 3: refused 7`, `compose: refused 8`; of a file nothing is said. Words are in
+-- them. `compose: line 3: not a step`, `compose: line 3: refused 11`, `compose: refused 8`; of a file nothing is said. Words are in
 -- ASCII. The longest has 80 bytes or fewer: proofs/Complaining.
 use Prim.Native.Nat.{ℕ, _+_, _%_}
 use mathlib.Core.Bool.{cond}

@@ -1,14 +1,16 @@
 -- A text made into a script file. Line by line, counted from 0: a line to pass over adds nothing, a step adds its six bytes, and the
--- first line that is of another form, whose step is not legal (document 01's 7), or whose step is the 1,009th (8) is reported. What is
--- gathered then goes to the writer, which refuses a text without a step (8) and an output with too little room (9). A refusal changes
+-- first line that is of another form, whose step does not pass (document 01's 7; 11 of document 02, P2), or whose step is the 1,009th (8)
+-- is reported. What is gathered then goes to the writer, which refuses a text without a step (8) and an output with too little room (9). A refusal changes
 -- no byte of the output. How a line is read is the crate spelling's Reading.
 use Prim.Native.Nat.{ℕ, _+_}
-use mathlib.Core.Bool.{Bool, cond}
+use mathlib.Core.Bool.{cond}
 use mathlib.Core.List.{List, [], _∷_, _++_}
 use lib.Dec.{ltb}
 use lib.ListN.{length}
 use Rattle.lists.specs.Put.{put}
-use Rattle.steps.specs.Step.{legal, bytesOf}
+use Rattle.steps.specs.Step.{judged, bytesOf, faultNumber}
+use Rattle.steps.specs.declared.StepRead.{StepRead}
+use Rattle.steps.specs.declared.StepRead.the-variants.{Good, Refused as NoStep}
 use Rattle.spelling.specs.Reading.{lineOf}
 use Rattle.spelling.specs.declared.Line.{Line}
 use Rattle.spelling.specs.declared.Line.the-variants.{Pass, Is, Other}
@@ -22,12 +24,13 @@ use Rattle.composing.specs.declared.Composed.{Composed}
 use Rattle.composing.specs.declared.Composed.the-variants.{Blocks, Stopped, Refused}
 
 -- what is wrong with a line, with so many bytes of steps before it: 1,008 steps are 6,048 bytes
-abbrev pub stepVerdict : Bool → ℕ → Verdict
-stepVerdict isLegal size = cond isLegal (cond (ltb size 6048) Fine Many) Step
+abbrev pub stepVerdict : StepRead → ℕ → Verdict
+stepVerdict (Good s) size = cond (ltb size 6048) Fine Many
+stepVerdict (NoStep why) size = Step why
 
 abbrev pub verdict : Line → ℕ → Verdict
 verdict Pass size = Fine
-verdict (Is step) size = stepVerdict (legal step) size
+verdict (Is step) size = stepVerdict (judged step) size
 verdict Other size = Form
 
 -- the steps with those of a line
@@ -40,7 +43,7 @@ withLine Other steps = steps
 abbrev pub orStop : Verdict → ℕ → Composed → Composed
 orStop Fine k rest = rest
 orStop Form k rest = Stopped Form k
-orStop Step k rest = Stopped Step k
+orStop (Step why) k rest = Stopped (Step why) k
 orStop Many k rest = Stopped Many k
 
 abbrev pub ofWriter : Written → Composed
@@ -68,9 +71,9 @@ leftBy (Blocks n) text out = put out 0 (fileOfText text)
 leftBy (Stopped v k) text out = out
 leftBy (Refused r) text out = out
 
--- document 01's number; 0 for a line of another form, which has none
+-- the number; 0 for a line of another form, which has none
 abbrev pub verdictNumber : Verdict → ℕ
 verdictNumber Fine = 0
 verdictNumber Form = 0
-verdictNumber Step = 7
+verdictNumber (Step why) = faultNumber why
 verdictNumber Many = 8

@@ -18,7 +18,7 @@ use Rattle.composing.specs.declared.Gathered.the-variants.{Steps, Stoppe
 abbrev pub isFine : Verdict → Bool
 isFine Fine = true
 isFine Form = false
-isFine Step = false
+isFine (Step why) = false
 isFine Many = false
 
 -- a line from one place up to another, and the lines behind it

@@ -13,7 +13,8 @@ ghost use Rattle.composing.specs.Working.{isFine, LineEnds, lineSize, Ke
 use script::Refusal;
 use spelling::Line;
 use spelling::read_line;
-use steps::is_legal;
+use steps::Fault;
+use steps::StepRead;
 use steps::to_bytes;
 use text::add;
 use text::add_place;
@@ -21,11 +22,11 @@ use text::add_refused;
 use writer::Written;
 use writer::write;
 
-// What a line comes to: it is fine; it is of another form; its step is not legal; its step is one too many.
+// What a line comes to: it is fine; it is of another form; its step does not pass; its step is one too many.
 pub enum Verdict {
     Fine,
     Form,
-    Step,
+    Step(Fault),
     Many,
 }
 
@@ -49,7 +50,7 @@ pub fn verdict_number(v: Verdict) -> u8
     match v {
         Verdict::Fine => 0,
         Verdict::Form => 0,
-        Verdict::Step => 7,
+        Verdict::Step(why) => why.number(),
         Verdict::Many => 8,
     }
 }
@@ -61,22 +62,24 @@ fn is_fine(v: Verdict) -> bool
     match v {
         Verdict::Fine => true,
         Verdict::Form => false,
-        Verdict::Step => false,
+        Verdict::Step(_) => false,
         Verdict::Many => false,
     }
 }
 
 // What a step comes to, with so many bytes of steps before it.
-fn judge_step(legal: bool, size: usize) -> Verdict
-    ensures { λ r. ⌜ r ≡ stepVerdict legal size ⌝ }
+fn judge_step(read: StepRead, size: usize) -> Verdict
+    ensures { λ r. ⌜ r ≡ stepVerdict read size ⌝ }
 {
-    if legal {
-        if size < 6048 {
-            return Verdict::Fine;
+    match read {
+        StepRead::Good(_) => {
+            if size < 6048 {
+                return Verdict::Fine;
+            }
+            Verdict::Many
         }
-        return Verdict::Many;
+        StepRead::Refused(why) => Verdict::Step(why),
     }
-    Verdict::Step
 }
 
 // What a line comes to, with so many bytes of steps before it.
@@ -85,7 +88,7 @@ fn judge(line: Line, size: usize) -> Verdict
 {
     match line {
         Line::Pass => Verdict::Fine,
-        Line::Is(step) => judge_step(is_legal(step), size),
+        Line::Is(step) => judge_step(steps::judge(step), size),
         Line::Other => Verdict::Form,
     }
 }

@@ -4,7 +4,7 @@
 ghost use mathlib.Core.Path.{_≡_};
 ghost use Prim.Native.Nat.{_+_, _≤_};
 ghost use lib.ListN.{length};
-ghost use Rattle.registers.specs.Groups.{groupAt, isIndexed, rowOf};
+ghost use Rattle.registers.specs.Groups.{isIndexed, rowOf};
 ghost use Rattle.chip.specs.State.{named};
 ghost use Rattle.text.specs.Adding.{Added, withAddedIn, behindIn};
 ghost use Rattle.dump.specs.Line.{letters, cell, cellsTo, lineOfOne};
@@ -12,6 +12,7 @@ ghost use Rattle.dump.specs.Text.{isListed, anyListed, lineAt, linesTo, 
 use chip::Chip;
 use registers::Group;
 use registers::Row;
+use registers::group_at;
 use registers::row_of;
 use text::digit;
 
@@ -162,23 +163,6 @@ fn add_paragraph(chip: Chip, g: Group, out: &mut [u8], at: usize) -> usize
     }
     let end = add_one(chip, g, out, at);
     add(out, end, b"\n")
-}
-
-// The group of a number, 0 to 8.
-fn group_at(k: u8) -> Group
-    ensures { λ r. ⌜ r ≡ groupAt k ⌝ }
-{
-    match k {
-        0 => Group::Cr,
-        1 => Group::Sr,
-        2 => Group::Gr,
-        3 => Group::Xr,
-        4 => Group::Fr,
-        5 => Group::Mr,
-        6 => Group::Msr,
-        7 => Group::Palmask,
-        _ => Group::Ar,
-    }
 }
 
 // The paragraphs of all groups.

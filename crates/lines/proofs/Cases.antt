@@ -1,13 +1,15 @@
--- Document 01's set-ups 12 and 13 as listings, by computation over the definition that the contract cites.
+-- Document 01's set-ups 12 and 13 and document 02's XR70 as listings, by computation over the definition that the contract cites.
 use mathlib.Core.Path.{_≡_, refl}
 use mathlib.Core.List.{List, [], _∷_, _++_}
 use Prim.Native.Nat.{ℕ}
 use lib.ListN.{replicate}
 use Rattle.lists.specs.Scan.{firstNot, every}
-use Rattle.steps.specs.Step.{legal, shaped, stepOf}
+use Rattle.registers.specs.Extension.{XR}
+use Rattle.registers.specs.Groups.{groupAt, rowOf}
+use Rattle.steps.specs.Step.{legal, idle, judged, shaped, stepOf}
 use Rattle.steps.specs.declared.Step.the-variants.{Field}
 use Rattle.script.specs.Block.{wordSum, contentLegal, blockLegal}
-use Rattle.script.specs.File.{stepCount, checked}
+use Rattle.script.specs.File.{stepCount, stepsChecked, checked}
 use Rattle.script.specs.Reader.{nextOf}
 use Rattle.commands.specs.Expansion.{ways, expanded, commandsOf}
 use Rattle.commands.specs.Translation.{stepsTo, translated}
@@ -33,7 +35,7 @@ pub case-13 : text file-13 32256
     ≡ (0x73 ∷ 0x74 ∷ 0x65 ∷ 0x70 ∷ 0x73 ∷ 0x20 ∷ 0x31 ∷ 0x20 ∷ 0x63 ∷ 0x6F ∷ 0x6D ∷ 0x6D ∷ 0x61 ∷ 0x6E ∷ 0x64 ∷ 0x73 ∷ 0x20 ∷ 0x32 ∷ 0x0A ∷ [])
     ++ (0x4F ∷ 0x55 ∷ 0x54 ∷ 0x20 ∷ 0x33 ∷ 0x44 ∷ 0x36 ∷ 0x20 ∷ 0x36 ∷ 0x30 ∷ 0x0A ∷ [])
     ++ (0x4F ∷ 0x55 ∷ 0x54 ∷ 0x20 ∷ 0x33 ∷ 0x44 ∷ 0x37 ∷ 0x20 ∷ 0x34 ∷ 0x33 ∷ 0x0A ∷ [])
-unfolding text translated checked blockLegal contentLegal wordSum firstNot every stepCount stepOf shaped legal nextOf stepsTo commandsOf expanded ways linesOf decimalIn
+unfolding text translated checked stepsChecked blockLegal contentLegal wordSum firstNot every stepCount stepOf shaped judged legal idle groupAt rowOf XR nextOf stepsTo commandsOf expanded ways linesOf decimalIn
 case-13 = refl
 
 -- the same file with its check one off: `refused 6`
@@ -41,3 +43,9 @@ pub case-13-damaged : text ((0 ∷ 0 ∷ 1 ∷ 1 ∷ 0 ∷ 0 ∷ 1 ∷ 3 ∷ 0x6
     ≡ 0x72 ∷ 0x65 ∷ 0x66 ∷ 0x75 ∷ 0x73 ∷ 0x65 ∷ 0x64 ∷ 0x20 ∷ 0x36 ∷ 0x0A ∷ []
 unfolding text translated checked blockLegal contentLegal wordSum firstNot every stepCount stepOf shaped legal nextOf stepsTo commandsOf expanded ways linesOf decimalIn
 case-13-damaged = refl
+
+-- the same with XR70 for XR60, as a volunteer typed (document 02, P2), and its check right: `refused 11`
+pub case-XR70 : text ((0 ∷ 0 ∷ 1 ∷ 1 ∷ 0 ∷ 0 ∷ 1 ∷ 3 ∷ 0x70 ∷ 0x43 ∷ 0 ∷ 0 ∷ []) ++ replicate 498 0 ++ (0x8F ∷ 0xB8 ∷ [])) 32256
+    ≡ 0x72 ∷ 0x65 ∷ 0x66 ∷ 0x75 ∷ 0x73 ∷ 0x65 ∷ 0x64 ∷ 0x20 ∷ 0x31 ∷ 0x31 ∷ 0x0A ∷ []
+unfolding text translated checked stepsChecked blockLegal contentLegal wordSum firstNot every stepCount stepOf shaped judged legal idle groupAt rowOf XR nextOf stepsTo commandsOf expanded ways linesOf decimalIn
+case-XR70 = refl

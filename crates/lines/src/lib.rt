@@ -5,7 +5,6 @@ ghost use mathlib.Core.Path.{_≡_};
 ghost use mathlib.Core.List.{_++_};
 ghost use Prim.Native.Nat.{_+_, _*_, _≤_};
 ghost use lib.ListN.{length};
-ghost use Rattle.script.specs.Numbers.{ofRefusal};
 ghost use Rattle.commands.specs.Translation.{translated, leftBy as translatedBy};
 ghost use Rattle.text.specs.Digits.{decimal};
 ghost use Rattle.lines.specs.Line.{line};
@@ -17,7 +16,6 @@ use commands::CommandRead;
 use commands::Translated;
 use commands::command_of;
 use commands::translate;
-use script::Refusal;
 use script::step_count;
 use text::digit;
 
@@ -153,18 +151,6 @@ fn add_header(out: &mut [u8], steps: usize, commands: usize) -> usize
     add(out, end, b"\n")
 }
 
-// Document 01's number of a refusal.
-fn number_of(r: Refusal) -> usize
-    ensures { λ n. ⌜ n ≡ ofRefusal r .number ⌝ }
-{
-    match r {
-        Refusal::Length => 8,
-        Refusal::Block(_) => 6,
-        Refusal::Step(_) => 7,
-        Refusal::Room => 9,
-    }
-}
-
 // The line of a refusal.
 fn add_refusal(out: &mut [u8], number: usize) -> usize
     requires { ⌜ 57 ≤ length (now out) ⌝ }
@@ -193,7 +179,7 @@ pub fn list(file: &[u8], work: &mut [u8], out: &mut [u8]) -> Listed
             if out.len() < 57 {
                 return Listed::Short;
             }
-            Listed::Text(add_refusal(out, number_of(r)))
+            Listed::Text(add_refusal(out, r.number() as usize))
         }
         Translated::Commands(k) => {
             if out.len() < 57 + 12 * k {

@@ -1,5 +1,6 @@
 -- The theorem is in Demand3. Under it: what lists of commands do to what has a name (Sends), the port that goes by turns (Turning), the facts of each
--- group (Reaching), each step's commands (StepsSent), closed ports (Closed), and the entry (Playing).
+-- group (Reaching), each step's commands (StepsSent), closed ports (Closed), and the entry (Playing). Idle is document 02's, P2: steps that can do
+-- nothing change nothing.
 pub mod Sends
 pub mod Turning
 pub mod Reaching
@@ -7,3 +8,4 @@ pub mod StepsSent
 pub mod Demand3
 pub mod Closed
 pub mod Playing
+pub mod Idle

@@ -4,7 +4,7 @@
 // attribute registers of chapter 12, is document 02's, P1.
 // The chip's state is not here: crate `chip` holds it.
 ghost use mathlib.Core.Path.{_≡_};
-ghost use Rattle.registers.specs.Groups.{rowOf, writableOf, resetOf};
+ghost use Rattle.registers.specs.Groups.{groupAt, rowOf, writableOf, resetOf};
 ghost use Rattle.registers.specs.WriteRule.{lockedBy, leftOpen, underLock, writableNow, written};
 
 mod rows;
@@ -28,6 +28,23 @@ pub enum Group {
 pub enum Row {
     Listed(u8, u8),
     Unlisted,
+}
+
+// The group of a number, 0 to 8; a number above 8 is no group's.
+pub fn group_at(k: u8) -> Group
+    ensures { λ r. ⌜ r ≡ groupAt k ⌝ }
+{
+    match k {
+        0 => Group::Cr,
+        1 => Group::Sr,
+        2 => Group::Gr,
+        3 => Group::Xr,
+        4 => Group::Fr,
+        5 => Group::Mr,
+        6 => Group::Msr,
+        7 => Group::Palmask,
+        _ => Group::Ar,
+    }
 }
 
 // The row of a register.

@@ -3,25 +3,30 @@
 -- that what is so decides the answer. With it go the number and the value.
 use mathlib.Core.Path.{_≡_, refl, sym, ap, subst, _∙_}
 use mathlib.Core.List.{List}
-use mathlib.Core.Bool.{Bool, true, false}
+use mathlib.Core.Bool.{Bool, true, false, cond, not}
 use Prim.Native.Nat.{ℕ, _≤_, _<_}
 use native.Mathlib.Omega.{arith}
 use borrow.Author.Tests.{lt-ltb, le-ltb, ltb-true, ltb-false}
 use lib.Dec.{ltb}
 use Rattle.lists.proofs.Scan.{first-le}
 use Rattle.lists.proofs.Tests.{of-cond}
-use Rattle.steps.specs.Step.{isGood}
-use Rattle.script.specs.File.{wholeBlocks, blocks, legalAt, firstBadBlock, stepCount, stepAt, firstBadStep, checked}
+use Rattle.lists.specs.Numbers.{Returned, returned}
+use Rattle.steps.specs.declared.Fault.{Fault}
+use Rattle.script.specs.File.{wholeBlocks, blocks, legalAt, firstBadBlock, stepCount, firstBadStep, stepsChecked, checked}
 use Rattle.script.specs.Numbers.{ofChecked, fileTable}
 use Rattle.script.specs.declared.Layout.the-variants.{Blocks}
 use Rattle.script.specs.declared.Refusal.the-variants.{Length, Block, Step, Room}
 use Rattle.script.specs.declared.Checked.{Checked}
 use Rattle.script.specs.declared.Checked.the-variants.{Accepted, Refused}
+use Rattle.script.proofs.StepLaws.{BadAt, StepsSay, steps-say, say-steps, steps-number}
 
 -- ---- number and value: the table of document 01 is what the answer says
 pub checked-number : (f : List ℕ) → ofChecked (checked f) ≡ fileTable f
 unfolding checked
-checked-number f = simp (of-cond ofChecked)
+checked-number f =
+    simp (of-cond ofChecked)
+    (ap (λ (x : Returned). cond (not (wholeBlocks f)) (returned 8 0) (cond (ltb (firstBadBlock f) (blocks f)) (returned 6 (firstBadBlock f)) x))
+    (steps-number ofChecked (λ r. refl) Blocks f (stepCount f)))
 
 pub answered : (f : List ℕ) {r : Checked} → checked f ≡ r → (r ≡ checked f) × (ofChecked r ≡ fileTable f)
 answered f e = (sym e, ap ofChecked (sym e) ∙ checked-number f)
@@ -36,14 +41,9 @@ module _ (f : List ℕ) (w : wholeBlocks f ≡ true) (k : ℕ) (e : k ≡ firstB
   unfolding checked
   check-block h = rw (w, ← e, lt-ltb _ _ h)
 
-  module _ (h : blocks f ≤ k) (m j : ℕ) (em : m ≡ stepCount f) (ej : j ≡ firstBadStep Blocks f m) where
-    pub check-step : j < m → checked f ≡ Refused (Step j)
-    unfolding checked
-    check-step g = rw (w, ← e, le-ltb _ _ h, ← em, ← ej, lt-ltb _ _ g)
-
-    pub check-accepted : m ≤ j → checked f ≡ Accepted m
-    unfolding checked
-    check-accepted g = rw (w, ← e, le-ltb _ _ h, ← em, ← ej, le-ltb _ _ g)
+  pub check-all : blocks f ≤ k → checked f ≡ stepsChecked Blocks f (stepCount f)
+  unfolding checked
+  check-all h = rw (w, ← e, le-ltb _ _ h)
 
 -- ---- what an answer says
 pub record BadBlock (f : List ℕ) (k : ℕ) : Type 0 where
@@ -51,11 +51,10 @@ pub record BadBlock (f : List ℕ) (k : ℕ) : Type 0 where
   pub first : firstBadBlock f ≡ k
   pub there : k < blocks f
 
-pub record BadStep (f : List ℕ) (j : ℕ) : Type 0 where
+pub record BadStep (f : List ℕ) (j : ℕ) (why : Fault) : Type 0 where
   pub whole : wholeBlocks f ≡ true
   pub blocks-legal : firstBadBlock f ≡ blocks f
-  pub first : firstBadStep Blocks f (stepCount f) ≡ j
-  pub there : j < stepCount f
+  pub bad : BadAt Blocks f (stepCount f) j why
 
 pub record Legal (f : List ℕ) (m : ℕ) : Type 0 where
   pub whole : wholeBlocks f ≡ true
@@ -67,41 +66,43 @@ abbrev pub Says : List ℕ → Checked → Type 0
 Says f (Accepted m) = Legal f m
 Says f (Refused Length) = wholeBlocks f ≡ false
 Says f (Refused (Block k)) = BadBlock f k
-Says f (Refused (Step j)) = BadStep f j
+Says f (Refused (Step j why)) = BadStep f j why
 Says f (Refused Room) = ⊥
 
 -- it says what is so
 pub checked-says : (f : List ℕ) → Says f (checked f)
 checked-says f =
-    go (wholeBlocks f) refl (ltb (firstBadBlock f) (blocks f)) refl (ltb (firstBadStep Blocks f (stepCount f)) (stepCount f)) refl
+    go (wholeBlocks f) refl (ltb (firstBadBlock f) (blocks f)) refl
   where
     all-blocks : ltb (firstBadBlock f) (blocks f) ≡ false → firstBadBlock f ≡ blocks f
     all-blocks e = omega (arith, ltb-false (firstBadBlock f) (blocks f) e, first-le (legalAt f) 0 (blocks f))
 
-    go : (a : Bool) → wholeBlocks f ≡ a → (b : Bool) → ltb (firstBadBlock f) (blocks f) ≡ b
-        → (c : Bool) → ltb (firstBadStep Blocks f (stepCount f)) (stepCount f) ≡ c → Says f (checked f)
-    go false ea b eb c ec = rw (check-length f ea) ea
-    go true ea true eb c ec =
+    all-steps : wholeBlocks f ≡ true → firstBadBlock f ≡ blocks f → (r : Checked) → StepsSay Blocks f (stepCount f) r → Says f r
+    all-steps w b (Accepted m) a =
+        record { whole = w; blocks-legal = b; count = a .count; steps-legal = rw (a .count) at (a .none) }
+    all-steps w b (Refused (Step j why)) a = record { whole = w; blocks-legal = b; bad = a }
+    all-steps w b (Refused Length) a = absurd a
+    all-steps w b (Refused (Block k)) a = absurd a
+    all-steps w b (Refused Room) a = absurd a
+
+    go : (a : Bool) → wholeBlocks f ≡ a → (b : Bool) → ltb (firstBadBlock f) (blocks f) ≡ b → Says f (checked f)
+    go false ea b eb = rw (check-length f ea) ea
+    go true ea true eb =
         let h : firstBadBlock f < blocks f = ltb-true _ _ eb in
         rw (check-block f ea (firstBadBlock f) refl h) (record { whole = ea; first = refl; there = h })
-    go true ea false eb true ec =
-        let h : firstBadStep Blocks f (stepCount f) < stepCount f = ltb-true _ _ ec in
-        rw (check-step f ea (firstBadBlock f) refl (ltb-false _ _ eb) (stepCount f) (firstBadStep Blocks f (stepCount f)) refl refl h)
-        (record { whole = ea; blocks-legal = all-blocks eb; first = refl; there = h })
-    go true ea false eb false ec =
-        let h : stepCount f ≤ firstBadStep Blocks f (stepCount f) = ltb-false _ _ ec in
-        let e : firstBadStep Blocks f (stepCount f) ≡ stepCount f = omega (arith, first-le (λ j. isGood (stepAt Blocks f j)) 0 (stepCount f)) in
-        rw (check-accepted f ea (firstBadBlock f) refl (ltb-false _ _ eb) (stepCount f) (firstBadStep Blocks f (stepCount f)) refl refl h)
-        (record { whole = ea; blocks-legal = all-blocks eb; count = refl; steps-legal = e })
+    go true ea false eb =
+        rw (check-all f ea (firstBadBlock f) refl (ltb-false _ _ eb))
+        (all-steps ea (all-blocks eb) (stepsChecked Blocks f (stepCount f)) (steps-say Blocks f (stepCount f)))
 
 -- and what is so decides it
 pub says-checked : (f : List ℕ) (r : Checked) → Says f r → checked f ≡ r
 says-checked f (Accepted m) l =
-    check-accepted f (l .whole) (blocks f) (sym (l .blocks-legal)) (omega arith) m m (sym (l .count)) (sym (l .steps-legal)) (omega arith)
+    check-all f (l .whole) (blocks f) (sym (l .blocks-legal)) (omega arith)
+    ∙ say-steps Blocks f (stepCount f) (Accepted m) (record { count = l .count; none = rw (l .count) (l .steps-legal) })
 says-checked f (Refused Length) w = check-length f w
 says-checked f (Refused (Block k)) b = check-block f (b .whole) k (sym (b .first)) (b .there)
-says-checked f (Refused (Step j)) b =
-    check-step f (b .whole) (blocks f) (sym (b .blocks-legal)) (omega arith) (stepCount f) j refl (sym (b .first)) (b .there)
+says-checked f (Refused (Step j why)) b =
+    check-all f (b .whole) (blocks f) (sym (b .blocks-legal)) (omega arith) ∙ say-steps Blocks f (stepCount f) (Refused (Step j why)) (b .bad)
 says-checked f (Refused Room) w = absurd w
 
 pub answer-says : (f : List ℕ) {r : Checked} → checked f ≡ r → Says f r

@@ -5,6 +5,7 @@ pub mod Sum
 pub mod Check
 pub mod Rules
 pub mod Counting
+pub mod StepLaws
 pub mod Checking
 pub mod Reading
 pub mod Change

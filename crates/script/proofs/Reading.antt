@@ -1,5 +1,5 @@
 -- Laws of the reader: what it answers before and after the last step; over an accepted file it hands out
--- every step, and over one refused with 7 it hands out those before the refused one and refuses there.
+-- every step, and over one refused with 7 or 11 it hands out those before the refused one and refuses there.
 use mathlib.Core.Path.{_≡_, refl, sym, ap, _∙_}
 use mathlib.Core.List.{List}
 use mathlib.Core.Bool.{Bool, true, false, cond, true≢false}
@@ -10,14 +10,15 @@ use borrow.Author.Tests.{lt-ltb, le-ltb, ltb-true}
 use lib.Dec.{ltb}
 use lib.ListN.{take, drop}
 use Rattle.lists.specs.Numbers.{Returned, returned}
-use Rattle.lists.proofs.Scan.{first-before, first-fails, end-first}
+use Rattle.lists.proofs.Scan.{first-before, end-first}
 use Rattle.lists.proofs.Tests.{of-cond}
-use Rattle.steps.specs.Step.{legal, bytesOf, isGood, ofStepRead}
+use Rattle.steps.specs.Step.{legal, idle, bytesOf, isGood, ofStepRead}
+use Rattle.steps.specs.declared.Fault.{Fault}
 use Rattle.steps.specs.declared.Step.{Step}
 use Rattle.steps.specs.declared.StepRead.{StepRead}
 use Rattle.steps.specs.declared.StepRead.the-variants.{Good, Refused as NoStep}
 use Rattle.steps.proofs.Codec.{written-read}
-use Rattle.script.specs.File.{stepCount, stepPlace, stepAt, firstBadStep, checked}
+use Rattle.script.specs.File.{stepCount, stepPlace, stepAt, checked}
 use Rattle.script.specs.Numbers.{ofNext}
 use Rattle.script.specs.Reader.{asNext, nextOf, after, stood, turned}
 use Rattle.script.specs.declared.Layout.the-variants.{Blocks}
@@ -58,14 +59,15 @@ next-number f j =
   where
     as-next : (r : StepRead) → ofNext (asNext r j) ≡ ofStepRead j r
     as-next (Good s) = refl
-    as-next NoStep = refl
+    as-next (NoStep why) = refl
 
--- ---- what is handed out at step j: a legal step, whose six bytes stand at its place
+-- ---- what is handed out at step j: a step that passes, whose six bytes stand at its place
 pub record Handed (f : List ℕ) (j : ℕ) : Type 0 where
   pub step : Step
   pub answer : nextOf f j ≡ Found step
   pub bytes : bytesOf step ≡ take 6 (drop (stepPlace Blocks j) f)
   pub lawful : legal step ≡ true
+  pub useful : idle step ≡ false
 
 handed : (f : List ℕ) (j : ℕ) → j < stepCount f → isGood (stepAt Blocks f j) ≡ true → Handed f j
 handed f j h g = go (stepAt Blocks f j) refl g
@@ -73,8 +75,8 @@ handed f j h g = go (stepAt Blocks f j) refl g
     go : (r : StepRead) → stepAt Blocks f j ≡ r → isGood r ≡ true → Handed f j
     go (Good s) e g =
         let w = written-read (take 6 (drop (stepPlace Blocks j) f)) s e in
-        record { step = s; answer = next-there f j h ∙ ap (λ r. asNext r j) e; bytes = w .0; lawful = w .1 }
-    go NoStep e g = absurd (true≢false (sym g))
+        record { step = s; answer = next-there f j h ∙ ap (λ r. asNext r j) e; bytes = w .0; lawful = w .1 .lawful; useful = w .1 .useful }
+    go (NoStep why) e g = absurd (true≢false (sym g))
 
 -- over an accepted file every step is handed out
 pub accepted-handed : (f : List ℕ) (m : ℕ) → checked f ≡ Accepted m → (j : ℕ) → j < m → Handed f j
@@ -104,20 +106,16 @@ accepted-stood f m acc (suc n) = go (stood f n) (accepted-stood f m acc n) (decL
         ∙ ap (λ (x : Next). after x m) (accepted-end f m acc m (omega arith))
         ∙ omega arith
 
--- ---- a file refused with 7
-pub record Stopped (f : List ℕ) (j : ℕ) : Type 0 where
+-- ---- a file refused with 7 or 11
+pub record Stopped (f : List ℕ) (j : ℕ) (why : Fault) : Type 0 where
   pub before : (i : ℕ) → i < j → Handed f i
-  pub there : nextOf f j ≡ Refused (NoSuch j)
+  pub there : nextOf f j ≡ Refused (NoSuch j why)
 
-stopped : (f : List ℕ) (j : ℕ) → j ≡ firstBadStep Blocks f (stepCount f) → j < stepCount f → Stopped f j
-stopped f j e h = record {
-  before = λ i hi. handed f i (omega arith) (first-before (λ i. isGood (stepAt Blocks f i)) (stepCount f) i (omega arith));
-  there = next-there f j h ∙ bad (stepAt Blocks f j) (ap (λ (n : ℕ). isGood (stepAt Blocks f n)) e ∙ first-fails (λ i. isGood (stepAt Blocks f i)) (stepCount f) (omega arith));
-}
-  where
-    bad : (r : StepRead) → isGood r ≡ false → asNext r j ≡ Refused (NoSuch j)
-    bad (Good s) g = absurd (true≢false g)
-    bad NoStep g = refl
-
-pub refused-stopped : (f : List ℕ) (j : ℕ) → checked f ≡ Rejected (NoSuch j) → Stopped f j
-refused-stopped f j e = let b : BadStep f j = answer-says f e in stopped f j (sym (b .first)) (b .there)
+pub refused-stopped : (f : List ℕ) (j : ℕ) (why : Fault) → checked f ≡ Rejected (NoSuch j why) → Stopped f j why
+refused-stopped f j why e =
+    let s : BadStep f j why = answer-says f e in
+    let b = s .bad in
+    record {
+      before = λ i h. handed f i (omega (arith, b .there)) (first-before (λ i. isGood (stepAt Blocks f i)) (stepCount f) i (omega (arith, b .first)));
+      there = next-there f j (b .there) ∙ ap (λ r. asNext r j) (b .read);
+    }

@@ -1,6 +1,7 @@
 -- A script file: its blocks, its steps, and what checking it answers, in document 01's order (Scripts;
--- Numbers returned): 8, then 6 over all blocks, then 7. The first offending place is given, counted from 0,
--- a step over the whole file. What a block has to be is specs/Block, what a step has to be the crate steps.
+-- Numbers returned): 8, then 6 over all blocks, then 7 or, by document 02, P2, 11. The first offending place
+-- is given, counted from 0, a step over the whole file. What a block has to be is specs/Block, what a step
+-- has to be the crate steps.
 use Prim.Native.Nat.{ℕ, _+_, _-_, _*_, _/_, _%_}
 use mathlib.Core.List.{List}
 use mathlib.Core.Bool.{Bool, cond, not}
@@ -10,6 +11,7 @@ use Rattle.lists.specs.Scan.{firstNot}
 use Rattle.lists.specs.Units.{wholeUnits}
 use Rattle.steps.specs.Step.{readAt, isGood}
 use Rattle.steps.specs.declared.StepRead.{StepRead}
+use Rattle.steps.specs.declared.StepRead.the-variants.{Good, Refused as NoStep}
 use Rattle.script.specs.Block.{blockLegal}
 use Rattle.script.specs.declared.Layout.{Layout}
 use Rattle.script.specs.declared.Layout.the-variants.{Plain, Blocks}
@@ -46,14 +48,25 @@ stepPlace Blocks j = 512 * (j / 84) + 6 + 6 * (j % 84)
 abbrev pub stepAt : Layout → List ℕ → ℕ → StepRead
 stepAt layout f j = readAt f (stepPlace layout j)
 
--- the first of m steps that is none of the allowed, or m
+-- the first of m steps that does not pass, or m
 abbrev pub firstBadStep : Layout → List ℕ → ℕ → ℕ
 firstBadStep layout f m = firstNot (λ j. isGood (stepAt layout f j)) 0 m
 
--- 8, 6, 7; else the number of steps
+-- the answer for a step that is read as step j: its refusal, or what else there is to answer
+abbrev pub orRefused : StepRead → ℕ → Checked → Checked
+orRefused (Good s) j rest = rest
+orRefused (NoStep why) j rest = Refused (Step j why)
+
+-- m steps: the first that does not pass is the answer, refused for what is wrong with it; else there are m
+unfoldable pub stepsChecked : Layout → List ℕ → ℕ → Checked
+stepsChecked layout f m =
+    cond (ltb (firstBadStep layout f m) m)
+    (orRefused (stepAt layout f (firstBadStep layout f m)) (firstBadStep layout f m) (Accepted m))
+    (Accepted m)
+
+-- 8, 6, then 7 or 11; else the number of steps
 unfoldable pub checked : List ℕ → Checked
 checked f =
     cond (not (wholeBlocks f)) (Refused Length)
     (cond (ltb (firstBadBlock f) (blocks f)) (Refused (Block (firstBadBlock f)))
-    (cond (ltb (firstBadStep Blocks f (stepCount f)) (stepCount f)) (Refused (Step (firstBadStep Blocks f (stepCount f))))
-    (Accepted (stepCount f))))
+    (stepsChecked Blocks f (stepCount f)))

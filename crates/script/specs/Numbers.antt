@@ -5,7 +5,9 @@ use mathlib.Core.List.{List}
 use mathlib.Core.Bool.{cond, not}
 use lib.Dec.{ltb}
 use Rattle.lists.specs.Numbers.{Returned, returned}
-use Rattle.script.specs.File.{wholeBlocks, blocks, firstBadBlock, stepCount, firstBadStep}
+use Rattle.steps.specs.Step.{faultNumber, ofStepRead}
+use Rattle.script.specs.File.{wholeBlocks, blocks, firstBadBlock, stepCount, stepAt, firstBadStep}
+use Rattle.script.specs.declared.Layout.{Layout}
 use Rattle.script.specs.declared.Layout.the-variants.{Blocks}
 use Rattle.script.specs.declared.Refusal.{Refusal}
 use Rattle.script.specs.declared.Refusal.the-variants.{Length, Block, Step, Room}
@@ -14,11 +16,11 @@ use Rattle.script.specs.declared.Checked.the-variants.{Accepted, Refused
 use Rattle.script.specs.declared.Next.{Next}
 use Rattle.script.specs.declared.Next.the-variants.{Found, Refused as NoStep, End}
 
--- 6 a block breaks a rule: block number; 7 a step is none of the allowed: step number; 8 not whole blocks
--- or steps; 9 too little room
+-- 6 a block breaks a rule: block number; 7 a step is none of the allowed, 11 a step can do nothing: step
+-- number; 8 not whole blocks or steps; 9 too little room
 abbrev pub ofRefusal : Refusal → Returned
 ofRefusal (Block k) = returned 6 k
-ofRefusal (Step j) = returned 7 j
+ofRefusal (Step j why) = returned (faultNumber why) j
 ofRefusal Length = returned 8 0
 ofRefusal Room = returned 9 0
 
@@ -33,10 +35,14 @@ ofNext (Found s) = returned 0 0
 ofNext (NoStep r) = ofRefusal r
 ofNext End = returned 0 0
 
+-- the table for m steps: the first that does not pass reports its own number; else what comes after
+abbrev pub stepsTable : Layout → List ℕ → ℕ → Returned → Returned
+stepsTable layout f m rest =
+    cond (ltb (firstBadStep layout f m) m) (ofStepRead (firstBadStep layout f m) (stepAt layout f (firstBadStep layout f m))) rest
+
 -- the table for a file, in its order
 abbrev pub fileTable : List ℕ → Returned
 fileTable f =
     cond (not (wholeBlocks f)) (returned 8 0)
     (cond (ltb (firstBadBlock f) (blocks f)) (returned 6 (firstBadBlock f))
-    (cond (ltb (firstBadStep Blocks f (stepCount f)) (stepCount f)) (returned 7 (firstBadStep Blocks f (stepCount f)))
-    (returned 0 (stepCount f))))
+    (stepsTable Blocks f (stepCount f) (returned 0 (stepCount f))))

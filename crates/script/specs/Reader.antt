@@ -1,6 +1,6 @@
 -- "The script is read by a reader that stands over the caller's script bytes, built first as a position
 -- beside them. After the last step it answers the end." (document 01, Scripts). The reader goes by the
--- steps that the blocks say they have and refuses six bytes that are no legal step; 8 and 6 are the check's.
+-- steps that the blocks say they have and refuses six bytes that are no step that passes; 8 and 6 are the check's.
 -- That it hands out exactly the steps of an accepted file is proofs/Reading.
 use Prim.Native.Nat.{ℕ, zero, suc, _+_}
 use mathlib.Core.List.{List}
@@ -18,7 +18,7 @@ use Rattle.script.specs.declared.Turn.{Turn}
 -- a step that was read at place j
 abbrev pub asNext : StepRead → ℕ → Next
 asNext (Good s) j = Found s
-asNext NoStep j = Refused (Step j)
+asNext (NoStep why) j = Refused (Step j why)
 
 -- what the reader answers at step j
 unfoldable pub nextOf : List ℕ → ℕ → Next

@@ -1,16 +1,18 @@
 // Script files: blocks and their check, the steps of a file, the checked file, and the reader as a position
-// beside the caller's bytes (document 01, Scripts; numbers 8, 6 and 7 in that order). The definitions are in
+// beside the caller's bytes (document 01, Scripts; numbers 8 and 6, and then 7 or, by document 02, P2, 11 for
+// the first step that does not pass). The definitions are in
 // specs/: Block, File, Reader, Numbers. The reader as a struct over the bytes is the crate reader, and
 // making a file is the crate writer.
 ghost use mathlib.Core.Path.{_≡_};
 ghost use Prim.Native.Nat.{_+_, _*_, _%_, _/_, _≤_};
 ghost use lib.ListN.{length};
 ghost use Rattle.script.specs.Block.{wordSum, checkWord, lastMark, countLegal, unusedZero, contentLegal, blockLegal};
-ghost use Rattle.script.specs.File.{firstBadBlock, stepCount, stepPlace, stepAt, firstBadStep, checked};
+ghost use Rattle.script.specs.File.{firstBadBlock, stepCount, stepPlace, stepAt, firstBadStep, stepsChecked, checked};
 ghost use Rattle.script.specs.Reader.{nextOf, turned};
 ghost use Rattle.script.specs.Numbers.{ofRefusal, ofChecked, fileTable};
 use lists::is_whole;
 use lists::wide;
+use steps::Fault;
 use steps::Step;
 use steps::StepRead;
 use steps::read_at;
@@ -25,7 +27,7 @@ pub enum Layout {
 pub enum Refusal {
     Length,
     Block(usize),
-    Step(usize),
+    Step(usize, Fault),
     Room,
 }
 
@@ -36,7 +38,7 @@ impl Refusal {
     {
         match self {
             Refusal::Block(_) => 6,
-            Refusal::Step(_) => 7,
+            Refusal::Step(_, why) => why.number(),
             Refusal::Length => 8,
             Refusal::Room => 9,
         }
@@ -48,7 +50,7 @@ impl Refusal {
     {
         match self {
             Refusal::Block(k) => k,
-            Refusal::Step(j) => j,
+            Refusal::Step(j, _) => j,
             Refusal::Length => 0,
             Refusal::Room => 0,
         }
@@ -200,16 +202,16 @@ pub fn step_at(list: &[u8], layout: Layout, j: usize) -> StepRead
 {
     let skip = ahead(layout, j);
     if list.len() < skip {
-        return StepRead::Refused;
+        return StepRead::Refused(Fault::Unallowed);
     }
     if (list.len() - skip) / 6 <= j {
-        return StepRead::Refused;
+        return StepRead::Refused(Fault::Unallowed);
     }
     read_at(list, skip + 6 * j)
 }
 
-// The first of `count` steps that is none of the allowed, or `count`.
-pub fn first_bad_step(list: &[u8], layout: Layout, count: usize) -> usize
+// The first of `count` steps that does not pass, or `count`.
+fn first_bad_step(list: &[u8], layout: Layout, count: usize) -> usize
     ensures { λ r. ⌜ r ≡ firstBadStep layout (now (list .entry)) count ⌝ }
 {
     let mut j = 0;
@@ -222,7 +224,21 @@ pub fn first_bad_step(list: &[u8], layout: Layout, count: usize) -> usize
     j
 }
 
-// A file checked: 8, then 6 over all blocks, then 7; else its number of steps.
+// So many steps checked: why the first that does not pass is refused, or that all of them pass.
+pub fn check_steps(list: &[u8], layout: Layout, count: usize) -> Checked
+    ensures { λ r. ⌜ r ≡ stepsChecked layout (now (list .entry)) count ⌝ }
+{
+    let j = first_bad_step(list, layout, count);
+    if count <= j {
+        return Checked::Accepted(count);
+    }
+    match step_at(list, layout, j) {
+        StepRead::Good(_) => Checked::Accepted(count),
+        StepRead::Refused(why) => Checked::Refused(Refusal::Step(j, why)),
+    }
+}
+
+// A file checked: 8, then 6 over all blocks, then 7 or 11; else its number of steps.
 pub fn check_file(file: &[u8]) -> Checked
     ensures { λ r. ⌜ r ≡ checked (now (file .entry)) ⌝ }
     ensures { λ r. ⌜ ofChecked r ≡ fileTable (now (file .entry)) ⌝ }
@@ -234,12 +250,7 @@ pub fn check_file(file: &[u8]) -> Checked
     if k < file.len() / 512 {
         return Checked::Refused(Refusal::Block(k));
     }
-    let m = step_count(file);
-    let j = first_bad_step(file, Layout::Blocks, m);
-    if j < m {
-        return Checked::Refused(Refusal::Step(j));
-    }
-    Checked::Accepted(m)
+    check_steps(file, Layout::Blocks, step_count(file))
 }
 
 // The reader's work: what it answers at step `at`. A refusal goes straight out.
@@ -249,10 +260,10 @@ pub fn next_at(file: &[u8], at: usize) -> Next
     if step_count(file) <= at {
         return Next::End;
     }
-    let StepRead::Good(step) = step_at(file, Layout::Blocks, at) else {
-        return Next::Refused(Refusal::Step(at));
-    };
-    Next::Found(step)
+    match step_at(file, Layout::Blocks, at) {
+        StepRead::Good(step) => Next::Found(step),
+        StepRead::Refused(why) => Next::Refused(Refusal::Step(at, why)),
+    }
 }
 
 impl Position {

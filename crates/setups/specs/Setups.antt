@@ -20,9 +20,9 @@ use Rattle.blit.specs.Transfer.{transferred}
 use Rattle.blit.specs.declared.Transfer.{Transfer}
 use Rattle.steps.specs.Step.{bytesOf as stepBytes}
 use Rattle.steps.specs.declared.Step.{Step}
-use Rattle.steps.specs.declared.Step.the-variants.{Set, Field}
+use Rattle.steps.specs.declared.Step.the-variants.{Set, Field, Colour}
 use Rattle.script.specs.Block.{word}
-use Rattle.writer.specs.Write.{fileOf}
+use Rattle.writer.specs.Write.{fileOf, written, ofWritten}
 use Rattle.commands.specs.Command.{bytesOfAll}
 use Rattle.commands.specs.Expansion.{expanded}
 
@@ -53,6 +53,8 @@ pub data Row : Type 0 where
   commands : Step → List ℕ → Row
   -- a file of one step, and its check
   check : Step → ℕ → Row
+  -- steps given to the writer with room for a block, and its number and value
+  answers : List Step → ℕ → ℕ → Row
 
 -- ---- when it holds
 
@@ -78,12 +80,17 @@ happens c (shows p r g b ∷ es) = same (components (shown (named c) p)) (r ∷ 
 abbrev pub memory : List ℕ → List ℕ
 memory front = front ++ replicate 4091 0
 
+abbrev pub listOf : List Step → List ℕ
+listOf [] = []
+listOf (s ∷ ss) = stepBytes s ++ listOf ss
+
 abbrev pub holds : Row → Bool
 holds (chip first second es) = happens (reset first second) es
 holds (raster-byte p s d code byte) = eqb (raster code p s d) byte
 holds (moves front t after) = same (take (length after) (transferred (memory front) t)) after
 holds (commands s bytes) = same (bytesOfAll (expanded s)) bytes
 holds (check s w) = eqb (word (fileOf (stepBytes s)) 510) w
+holds (answers ss number value) = eqb (ofWritten (written (listOf ss) 512) .number) number && eqb (ofWritten (written (listOf ss) 512) .value) value
 
 -- ---- the table
 
@@ -167,6 +174,15 @@ setups =
     ∷ commands (Field 8 0x10 0x08 0x08)
     (0x02 ∷ 0xBA ∷ 0x03 ∷ 0x00 ∷ 0x02 ∷ 0xDA ∷ 0x03 ∷ 0x00 ∷ 0x02 ∷ 0xC0 ∷ 0x03 ∷ 0x00 ∷ 0x03 ∷ 0x20 ∷ 0x10 ∷ 0x00
     ∷ 0x04 ∷ 0xC0 ∷ 0x03 ∷ 0x00 ∷ 0x02 ∷ 0xC1 ∷ 0x03 ∷ 0x00 ∷ 0x03 ∷ 0xF7 ∷ 0x08 ∷ 0x00 ∷ 0x04 ∷ 0xC0 ∷ 0x03 ∷ 0x00 ∷ [])
+    -- P2.1. SET XR60 43h, SET XR70 43h: 11, step 1. SET SR05 00h, which is unlisted: 11, step 0.
+    ∷ answers (Set 3 0x60 0x43 ∷ Set 3 0x70 0x43 ∷ []) 11 1
+    ∷ answers (Set 1 0x05 0x00 ∷ []) 11 0
+    -- P2.2. AR15 cannot be named and has no writable bit: 7. So has FIELD XR70, mask 01h, value 03h. The first bad step reports its own number.
+    ∷ answers (Set 8 0x15 0x00 ∷ Set 3 0x70 0x43 ∷ []) 7 0
+    ∷ answers (Field 3 0x70 0x03 0x01 ∷ []) 7 0
+    ∷ answers (Set 3 0x70 0x43 ∷ Set 8 0x15 0x00 ∷ []) 11 0
+    -- P2.3. FIELD XR60, mask 00h; FIELD XR67, whose writable bits are 02h, mask 01h, value 01h; SET CR00 FFh, SET AR00 3Fh, a COLOUR: one block.
+    ∷ answers (Field 3 0x60 0x00 0x00 ∷ Field 3 0x67 0x01 0x01 ∷ Set 0 0x00 0xFF ∷ Set 8 0x00 0x3F ∷ Colour 0x00 0x3F 0x00 0x15 ∷ []) 0 1
     ∷ []
 
 abbrev pub allHold : List Row → Bool

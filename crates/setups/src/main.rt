@@ -12,6 +12,7 @@ use commands::translate;
 use libc::STDOUT_FILENO;
 use raster::raster_byte;
 use registers::Group;
+use writer::Written;
 
 // A capital hexadecimal digit.
 fn digit(x: u8) -> u8 {
@@ -316,6 +317,53 @@ fn case_p1_5() -> [u8; 16] {
     front(out)
 }
 
+// What the writer answers for steps, with room for a block: the number and the value.
+fn answer(steps: &[u8]) -> [u8; 2] {
+    let mut file = [0u8; 512];
+    match writer::write(steps, &mut file) {
+        Written::Blocks(n) => [0, (n % 256) as u8],
+        Written::Refused(r) => [r.number(), (r.value() % 256) as u8],
+    }
+}
+
+// P2.1. SET XR60 43h, SET XR70 43h; SET SR05 00h.
+fn case_p2_1() -> [u8; 16] {
+    let a = answer(&[1, 3, 0x60, 0x43, 0, 0, 1, 3, 0x70, 0x43, 0, 0]);
+    let b = answer(&[1, 1, 0x05, 0x00, 0, 0]);
+    let mut out = [0u8; 16];
+    out[0] = a[0];
+    out[1] = a[1];
+    out[2] = b[0];
+    out[3] = b[1];
+    out
+}
+
+// P2.2. SET AR15 00h, SET XR70 43h; FIELD XR70, mask 01h, value 03h; SET XR70 43h, SET AR15 00h.
+fn case_p2_2() -> [u8; 16] {
+    let a = answer(&[1, 8, 0x15, 0x00, 0, 0, 1, 3, 0x70, 0x43, 0, 0]);
+    let b = answer(&[2, 3, 0x70, 0x03, 0x01, 0]);
+    let c = answer(&[1, 3, 0x70, 0x43, 0, 0, 1, 8, 0x15, 0x00, 0, 0]);
+    let mut out = [0u8; 16];
+    out[0] = a[0];
+    out[1] = a[1];
+    out[2] = b[0];
+    out[3] = b[1];
+    out[4] = c[0];
+    out[5] = c[1];
+    out
+}
+
+// P2.3. FIELD XR60, mask 00h; FIELD XR67, mask 01h, value 01h; SET CR00 FFh; SET AR00 3Fh; a COLOUR.
+fn case_p2_3() -> [u8; 16] {
+    let a = answer(&[
+        2, 3, 0x60, 0x00, 0x00, 0, 2, 3, 0x67, 0x01, 0x01, 0, 1, 0, 0x00, 0xFF, 0, 0, 1, 8, 0x00, 0x3F, 0, 0, 3, 0x00, 0x3F, 0x00, 0x15, 0,
+    ]);
+    let mut out = [0u8; 16];
+    out[0] = a[0];
+    out[1] = a[1];
+    out
+}
+
 fn main() {
     report(
         1,
@@ -462,5 +510,23 @@ fn main() {
             0x11,
             0x00,
         ],
+    );
+    report_request(
+        2,
+        1,
+        case_p2_1(),
+        [11, 1, 11, 0, 0, 0, 0, 0, 0, 0, 0, 0, 0, 0, 0, 0],
+    );
+    report_request(
+        2,
+        2,
+        case_p2_2(),
+        [7, 0, 7, 0, 11, 0, 0, 0, 0, 0, 0, 0, 0, 0, 0, 0],
+    );
+    report_request(
+        2,
+        3,
+        case_p2_3(),
+        [0, 1, 0, 0, 0, 0, 0, 0, 0, 0, 0, 0, 0, 0, 0, 0],
     );
 }

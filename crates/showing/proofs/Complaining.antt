@@ -11,7 +11,7 @@ use Rattle.showing.specs.Complaint.{programBlock, programStep, front, co
 
 pub front-most : (r : Refusal) → length (front r) ≤ 34
 front-most (Block k) = omega (arith, placed-most programBlock k)
-front-most (Step j) = omega (arith, placed-most programStep j)
+front-most (Step j why) = omega (arith, placed-most programStep j)
 front-most Length = omega arith
 front-most Room = omega arith
 

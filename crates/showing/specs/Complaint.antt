@@ -1,5 +1,5 @@
 -- What is said of a file that is refused, in one line: where it is not right, counted from 0 as document 01 counts places, and the number.
--- `show: block 3: refused 6`, `show: step 5: refused 7`, `show: refused 8`. Words are in ASCII.
+-- `show: block 3: refused 6`, `show: step 5: refused 11`, `show: refused 8`. Words are in ASCII.
 use Prim.Native.Nat.{ℕ}
 use mathlib.Core.List.{List, [], _∷_, _++_}
 use Rattle.text.specs.Refused.{refused, placed}
@@ -19,7 +19,7 @@ programStep = program ++ (0x73 ∷ 0x74 ∷ 0x65 ∷ 0x70 ∷ 0x20 ∷ [])
 
 abbrev pub front : Refusal → List ℕ
 front (Block k) = placed programBlock k
-front (Step j) = placed programStep j
+front (Step j why) = placed programStep j
 front Length = program
 front Room = program
 

@@ -72,7 +72,7 @@ fn put_front(out: &mut [u8], at: usize, r: Refusal) -> usize
 {
     match r {
         Refusal::Block(k) => add_place(out, at, b"show: block ", k),
-        Refusal::Step(j) => add_place(out, at, b"show: step ", j),
+        Refusal::Step(j, _) => add_place(out, at, b"show: step ", j),
         Refusal::Length => add(out, at, b"show: "),
         Refusal::Room => add(out, at, b"show: "),
     }

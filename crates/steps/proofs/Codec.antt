@@ -1,30 +1,29 @@
 -- Reading and writing a step undo each other: the six bytes of a step are read as that step exactly where
--- it is legal, and bytes that are read as a step are the six bytes of that step, which is legal. Below:
--- fewer than six bytes are no step, and what a step may name.
-use mathlib.Core.Path.{_≡_, refl, sym, ap, _∙_}
+-- it passes, and bytes that are read as a step are the six bytes of that step, which passes. Below: fewer
+-- than six bytes are no step.
+use mathlib.Core.Path.{_≡_, refl, ap}
 use mathlib.Core.List.{List, [], _∷_}
-use mathlib.Core.Bool.{Bool, true, false, cond, _&&_}
+use mathlib.Core.Bool.{Bool, true, false, _&&_}
 use Prim.Native.Nat.{ℕ, _+_, _<_}
 use native.Mathlib.Omega.{arith}
 use borrow.Author.Tests.{eqb-true, ne-eqb}
 use lib.Dec.{eqb}
 use lib.ListN.{length, take, drop, length-take, length-drop}
 use Rattle.lists.proofs.Tests.{and-both}
-use Rattle.steps.specs.Step.{legal, bytesOf, shaped, ifLegal, stepOf, readAt}
+use Rattle.steps.specs.Step.{judged, bytesOf, shaped, ifShaped, stepOf, readAt}
 use Rattle.steps.specs.declared.Step.{Step}
 use Rattle.steps.specs.declared.Step.the-variants.{Set, Field, Colour}
+use Rattle.steps.specs.declared.Fault.the-variants.{Unallowed}
 use Rattle.steps.specs.declared.StepRead.{StepRead}
 use Rattle.steps.specs.declared.StepRead.the-variants.{Good, Refused}
+use Rattle.steps.proofs.Lawful.{Passes, good-passes}
 
--- ---- what was written is read: the step where it is legal, and else the refusal
-shaped-bytes : (s : Step) → stepOf (bytesOf s) ≡ ifLegal (Good s)
+-- ---- what was written is read: the step where it passes, and else its refusal
+pub read-written : (s : Step) → stepOf (bytesOf s) ≡ judged s
 unfolding stepOf shaped bytesOf
-shaped-bytes (Set g i v) = refl
-shaped-bytes (Field g i v m) = refl
-shaped-bytes (Colour n r g b) = refl
-
-pub read-written : (s : Step) → stepOf (bytesOf s) ≡ cond (legal s) (Good s) Refused
-read-written s = shaped-bytes s
+read-written (Set g i v) = refl
+read-written (Field g i v m) = refl
+read-written (Colour n r g b) = refl
 
 pub bytes-length : (s : Step) → length (bytesOf s) ≡ 6
 unfolding bytesOf
@@ -64,17 +63,13 @@ shaped-good a b c d e f s r =
         let ef : f ≡ 0 = eqb-true _ _ (p .1) in
         rw (← t′, ea, ef)
     go false ex false ey false ez =
-        absurd (let t : Refused ≡ Good s = rw (ex, ey, ez) at r in let z : _≡_ {A = ℕ} 0 1 = cc in omega arith)
+        absurd (let t : Refused Unallowed ≡ Good s = rw (ex, ey, ez) at r in let z : _≡_ {A = ℕ} 0 1 = cc in omega arith)
 
-if-legal : (r : StepRead) (s : Step) → ifLegal r ≡ Good s → (r ≡ Good s) × (legal s ≡ true)
-if-legal Refused s e = absurd (let z : _≡_ {A = ℕ} 0 1 = cc in omega arith)
-if-legal (Good q) s e = go (legal q) refl
-  where
-    go : (b : Bool) → legal q ≡ b → (Good q ≡ Good s) × (legal s ≡ true)
-    go true h = let t : Good q ≡ Good s = rw h at e in let t′ : q ≡ s = cc in (t, ap legal (sym t′) ∙ h)
-    go false h = absurd (let t : Refused ≡ Good s = rw h at e in let z : _≡_ {A = ℕ} 0 1 = cc in omega arith)
+if-shaped : (r : StepRead) (s : Step) → ifShaped r ≡ Good s → (r ≡ Good s) × Passes s
+if-shaped (Refused why) s e = absurd (let z : _≡_ {A = ℕ} 0 1 = cc in omega arith)
+if-shaped (Good q) s e = let p = good-passes q s e in (ap Good (p .0), p .1)
 
-pub written-read : (l : List ℕ) (s : Step) → stepOf l ≡ Good s → (bytesOf s ≡ l) × (legal s ≡ true)
+pub written-read : (l : List ℕ) (s : Step) → stepOf l ≡ Good s → (bytesOf s ≡ l) × Passes s
 unfolding stepOf
 written-read [] s e = absurd (let z : _≡_ {A = ℕ} 0 1 = cc in omega arith)
 written-read (a ∷ []) s e = absurd (let z : _≡_ {A = ℕ} 0 1 = cc in omega arith)
@@ -83,16 +78,16 @@ written-read (a ∷ b ∷ c ∷ []) s e = absurd (let z : _≡_ {A = ℕ} 0 1 = 
 written-read (a ∷ b ∷ c ∷ d ∷ []) s e = absurd (let z : _≡_ {A = ℕ} 0 1 = cc in omega arith)
 written-read (a ∷ b ∷ c ∷ d ∷ x ∷ []) s e = absurd (let z : _≡_ {A = ℕ} 0 1 = cc in omega arith)
 written-read (a ∷ b ∷ c ∷ d ∷ x ∷ f ∷ []) s e =
-    let p = if-legal (shaped a b c d x f) s e in
+    let p = if-shaped (shaped a b c d x f) s e in
     (shaped-good a b c d x f s (p .0), p .1)
 written-read (a ∷ b ∷ c ∷ d ∷ x ∷ f ∷ y ∷ l) s e = absurd (
     let n : length (a ∷ b ∷ c ∷ d ∷ x ∷ f ∷ y ∷ l) ≡ 6 → ⊥ = λ w. omega arith in
-    let t : Refused ≡ Good s = rw (ne-eqb (length (a ∷ b ∷ c ∷ d ∷ x ∷ f ∷ y ∷ l)) 6 n) at e in
+    let t : Refused Unallowed ≡ Good s = rw (ne-eqb (length (a ∷ b ∷ c ∷ d ∷ x ∷ f ∷ y ∷ l)) 6 n) at e in
     let z : _≡_ {A = ℕ} 0 1 = cc in
     omega arith)
 
 -- ---- fewer than six bytes are no step
-pub read-short : (l : List ℕ) (p : ℕ) → length l < p + 6 → readAt l p ≡ Refused
+pub read-short : (l : List ℕ) (p : ℕ) → length l < p + 6 → readAt l p ≡ Refused Unallowed
 unfolding stepOf
 read-short l p h = rw (ne-eqb (length (take 6 (drop p l))) 6 short)
   where

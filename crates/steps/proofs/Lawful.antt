@@ -1,7 +1,9 @@
--- The definition of a legal step is the right one: which group and index a step may name, case by case, a
--- FIELD with mask 00h, and "no bit outside mask", bit by bit. The last goes by halving both numbers.
+-- The definition of a step that passes is the right one. A legal step: which group and index a step may name,
+-- case by case, a FIELD with mask 00h, and "no bit outside mask", bit by bit; the last goes by halving both
+-- numbers. A step that can do nothing: an unlisted register, a listed one by its bits, and what does not
+-- matter. What a step comes to, each answer exactly when.
 use mathlib.Core.Path.{_≡_, refl, sym, ap, _∙_}
-use mathlib.Core.Bool.{true, false, and-true, or-false}
+use mathlib.Core.Bool.{Bool, true, false, not, and-true, or-false}
 use Prim.Native.Nat.{ℕ, zero, suc, _*_, _/_, _%_, _^_, _≤_, _<_}
 use native.Mathlib.Nat.{pow-succ', div-div-eq-div-mul}
 use native.Mathlib.Omega.{arith}
@@ -9,8 +11,18 @@ use borrow.Author.Tests.{lt-ltb, le-ltb, eqb-true, eq-eqb, ne-eqb}
 use lib.Dec.{ltb, eqb}
 use lib.Bits.{bitAnd, and-step, and-shr, and-zero-l}
 use Rattle.lists.specs.Bits.{bit}
-use Rattle.steps.specs.Step.{names, within, legal}
-use Rattle.steps.specs.declared.Step.the-variants.{Field}
+use Rattle.lists.specs.Scan.{every}
+use Rattle.registers.specs.Attribute.{AR}
+use Rattle.registers.specs.CrtController.{CR}
+use Rattle.registers.specs.Extension.{XR}
+use Rattle.registers.specs.Groups.{groupAt, rowOf}
+use Rattle.registers.specs.declared.Row.the-variants.{Listed, Unlisted}
+use Rattle.steps.specs.Step.{names, within, legal, unwritable, idle, judged}
+use Rattle.steps.specs.declared.Fault.the-variants.{Unallowed, Idle}
+use Rattle.steps.specs.declared.Step.{Step}
+use Rattle.steps.specs.declared.Step.the-variants.{Set, Field, Colour}
+use Rattle.steps.specs.declared.StepRead.{StepRead}
+use Rattle.steps.specs.declared.StepRead.the-variants.{Good, Refused}
 
 -- ---- document 01, Scripts: "Groups are 0 to 7; for 6 and 7 the index is 0."
 pub names-indexed : (group index : ℕ) → group < 6 → names group index ≡ true
@@ -56,3 +68,70 @@ same (suc n) v m h b =
 
 pub bits-within : (n v m : ℕ) → v < 2 ^ n → ((k : ℕ) → bit k v ≤ bit k m) → within v m ≡ true
 bits-within n v m h b = eq-eqb _ _ (same n v m h b)
+
+-- ---- document 02, P2: "whose register has no writable bit, unlisted ones included"
+pub unlisted-unwritable : (group index : ℕ) → rowOf (groupAt group) index ≡ Unlisted → unwritable group index ≡ true
+unlisted-unwritable g i e = rw e
+
+pub listed-unwritable : (group index w r : ℕ) → rowOf (groupAt group) index ≡ Listed w r → unwritable group index ≡ eqb w 0
+listed-unwritable g i w r e = rw e
+
+-- a SET by its register alone, and a FIELD like it, whatever its mask; a COLOUR never
+pub idle-set : (group index value : ℕ) → idle (Set group index value) ≡ unwritable group index
+unfolding idle
+idle-set g i v = refl
+
+pub idle-field : (group index value mask : ℕ) → idle (Field group index value mask) ≡ unwritable group index
+unfolding idle
+idle-field g i v m = refl
+
+pub idle-colour : (entry red green blue : ℕ) → idle (Colour entry red green blue) ≡ false
+unfolding idle
+idle-colour e r g b = refl
+
+-- "A volunteer typed XR70 for XR60"
+pub XR60-and-XR70 : (unwritable 3 0x60 ≡ false) × (unwritable 3 0x70 ≡ true)
+unfolding groupAt rowOf XR
+XR60-and-XR70 = (refl, refl)
+
+-- "CR00 to CR07 stay allowed under protection, since protection is a matter of state"; so do AR00 to AR0F under the picture
+pub protected-writable : every (λ i. not (unwritable 0 i)) 0x00 0x08 ≡ true
+unfolding every groupAt rowOf CR
+protected-writable = refl
+
+pub pictured-writable : every (λ i. not (unwritable 8 i)) 0x00 0x10 ≡ true
+unfolding every groupAt rowOf AR
+pictured-writable = refl
+
+-- ---- what a step comes to: 7, then 11, else it passes
+pub record Passes (s : Step) : Type 0 where
+  pub lawful : legal s ≡ true
+  pub useful : idle s ≡ false
+
+module _ (s : Step) where
+  pub unallowed-first : legal s ≡ false → judged s ≡ Refused Unallowed
+  unfolding judged
+  unallowed-first l = rw l
+
+  pub idle-second : legal s ≡ true → idle s ≡ true → judged s ≡ Refused Idle
+  unfolding judged
+  idle-second l i = rw (l, i)
+
+  pub passes-good : Passes s → judged s ≡ Good s
+  unfolding judged
+  passes-good p = rw (p .lawful, p .useful)
+
+-- .. and a step that is found good is the step, and passes
+pub good-passes : (q s : Step) → judged q ≡ Good s → (q ≡ s) × Passes s
+good-passes q s e = go (legal q) refl (idle q) refl
+  where
+    none : {r : StepRead} → r ≡ judged q → r ≡ Good s
+    none h = h ∙ e
+
+    go : (a : Bool) → legal q ≡ a → (b : Bool) → idle q ≡ b → (q ≡ s) × Passes s
+    go false l b i = absurd (let t : Refused Unallowed ≡ Good s = none (sym (unallowed-first q l)) in let z : _≡_ {A = ℕ} 0 1 = cc in omega arith)
+    go true l true i = absurd (let t : Refused Idle ≡ Good s = none (sym (idle-second q l i)) in let z : _≡_ {A = ℕ} 0 1 = cc in omega arith)
+    go true l false i =
+        let t : Good q ≡ Good s = none (sym (passes-good q (record { lawful = l; useful = i }))) in
+        let t′ : q ≡ s = cc in
+        (t′, record { lawful = ap legal (sym t′) ∙ l; useful = ap idle (sym t′) ∙ i })

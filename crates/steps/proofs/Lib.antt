@@ -1,4 +1,4 @@
--- The laws of a step: reading and writing undo each other (Codec), and a legal step is what the documents say
--- (Lawful). The other folders have a function's proof each.
-pub mod Codec
+-- The laws of a step: a step passes exactly where the documents say (Lawful), and reading and writing undo
+-- each other (Codec). The other folders have a function's proof each.
 pub mod Lawful
+pub mod Codec

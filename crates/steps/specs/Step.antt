@@ -1,7 +1,7 @@
--- A step of a script: what a legal step is, the six bytes of a step, and what reading six bytes finds
--- (document 01, Scripts; document 02, P1). `legal` is the one definition of a legal step, for the reader and
--- the writer; `names` is the part of it that says which group and index a step may name. That reading and
--- writing undo each other is proofs/Codec.
+-- A step of a script: what a legal step is, which step can do nothing, the six bytes of a step, and what
+-- reading six bytes finds (document 01, Scripts; document 02, P1 and P2). `judged` is the one definition of
+-- a step that passes, for the reader, the writer and a text of steps; `names` is the part of it that says
+-- which group and index a step may name. That reading and writing undo each other is proofs/Codec.
 use Prim.Native.Nat.{ℕ}
 use mathlib.Core.List.{List, [], _∷_}
 use mathlib.Core.Bool.{Bool, true, false, cond, _&&_, _||_}
@@ -9,8 +9,11 @@ use lib.Dec.{ltb, eqb}
 use lib.Bits.{bitAnd}
 use lib.ListN.{length, getD, take, drop}
 use Rattle.lists.specs.Numbers.{Returned, returned}
+use Rattle.registers.specs.Groups.{groupAt, writableOf}
 use Rattle.steps.specs.declared.Step.{Step}
 use Rattle.steps.specs.declared.Step.the-variants.{Set, Field, Colour}
+use Rattle.steps.specs.declared.Fault.{Fault}
+use Rattle.steps.specs.declared.Fault.the-variants.{Unallowed, Idle}
 use Rattle.steps.specs.declared.StepRead.{StepRead}
 use Rattle.steps.specs.declared.StepRead.the-variants.{Good, Refused}
 
@@ -29,6 +32,21 @@ legal (Set group index value) = names group index
 legal (Field group index value mask) = names group index && within value mask
 legal (Colour entry red green blue) = true
 
+-- document 02, P2: "whose register has no writable bit, unlisted ones included". The writable bits of the
+-- register's row alone decide: not CR11's protection nor the picture, which are state, and not a FIELD's mask
+abbrev pub unwritable : ℕ → ℕ → Bool
+unwritable group index = eqb (writableOf (groupAt group) index) 0
+
+-- a step that can do nothing
+unfoldable pub idle : Step → Bool
+idle (Set group index value) = unwritable group index
+idle (Field group index value mask) = unwritable group index
+idle (Colour entry red green blue) = false
+
+-- what a step comes to: "11 .. after 7 for the same step"
+unfoldable pub judged : Step → StepRead
+judged s = cond (legal s) (cond (idle s) (Refused Idle) (Good s)) (Refused Unallowed)
+
 -- "SET: 1, group, index, value, 0, 0. FIELD: 2, group, index, value, mask, 0. COLOUR: 3, entry, red, green, blue, 0."
 unfoldable pub bytesOf : Step → List ℕ
 bytesOf (Set group index value) = 1 ∷ group ∷ index ∷ value ∷ 0 ∷ 0 ∷ []
@@ -40,18 +58,18 @@ unfoldable pub shaped : ℕ → ℕ → ℕ → ℕ → ℕ → ℕ → StepRead
 shaped a b c d e f =
     cond (eqb a 1 && eqb e 0 && eqb f 0) (Good (Set b c d))
     (cond (eqb a 2 && eqb f 0) (Good (Field b c d e))
-    (cond (eqb a 3 && eqb f 0) (Good (Colour b c d e)) Refused))
+    (cond (eqb a 3 && eqb f 0) (Good (Colour b c d e)) (Refused Unallowed)))
 
--- "A step read is one of three kinds, and otherwise a refusal"
-abbrev pub ifLegal : StepRead → StepRead
-ifLegal (Good s) = cond (legal s) (Good s) Refused
-ifLegal Refused = Refused
+-- "A step read is one of three kinds, and otherwise a refusal": bytes of another kind are none of the allowed
+abbrev pub ifShaped : StepRead → StepRead
+ifShaped (Good s) = judged s
+ifShaped (Refused why) = Refused Unallowed
 
 -- bytes read as a step: six of them
 unfoldable pub stepOf : List ℕ → StepRead
 stepOf l =
     cond (eqb (length l) 6)
-    (ifLegal (shaped (getD l 0 0) (getD l 1 0) (getD l 2 0) (getD l 3 0) (getD l 4 0) (getD l 5 0))) Refused
+    (ifShaped (shaped (getD l 0 0) (getD l 1 0) (getD l 2 0) (getD l 3 0) (getD l 4 0) (getD l 5 0))) (Refused Unallowed)
 
 -- the step that stands at a place of a list of bytes
 abbrev pub readAt : List ℕ → ℕ → StepRead
@@ -59,10 +77,15 @@ readAt list place = stepOf (take 6 (drop place list))
 
 abbrev pub isGood : StepRead → Bool
 isGood (Good s) = true
-isGood Refused = false
+isGood (Refused why) = false
 
--- document 01's number and value for what is read as step j: 7 and the step number, or done, where the
+-- 7 a step is none of the allowed; document 02, P2: 11 a step can do nothing
+abbrev pub faultNumber : Fault → ℕ
+faultNumber Unallowed = 7
+faultNumber Idle = 11
+
+-- the number and value for what is read as step j: that of its fault and the step number, or done, where the
 -- answer is the step and no number
 abbrev pub ofStepRead : ℕ → StepRead → Returned
 ofStepRead j (Good s) = returned 0 0
-ofStepRead j Refused = returned 7 j
+ofStepRead j (Refused why) = returned (faultNumber why) j

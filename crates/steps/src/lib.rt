@@ -1,10 +1,13 @@
 // One step of a script: an enum of three kinds, six bytes read as a step or refused, and a step written as
-// six bytes (document 01, Scripts; document 02, P1; number 7). What a legal step is stands in one
-// definition, `legal` of specs/Step, and in one function, `is_legal`. Group and index are numbers here; what
-// register they name is the chip's.
+// six bytes (document 01, Scripts; document 02, P1 and P2; numbers 7 and 11). Which step passes stands in one
+// definition, `judged` of specs/Step, and in one function, `judge`. Group and index are numbers here; which
+// bits of their register can be written is asked of the register's row, and what the register holds is the
+// chip's.
 ghost use mathlib.Core.Path.{_≡_};
 ghost use mathlib.Core.List.{[], _∷_};
-ghost use Rattle.steps.specs.Step.{names, legal, shaped, stepOf, readAt, bytesOf};
+ghost use Rattle.steps.specs.Step.{names, legal, unwritable, idle, judged, shaped, stepOf, readAt, bytesOf, faultNumber};
+use masks::writable;
+use registers::group_at;
 
 // A step read is one of three kinds..
 pub enum Step {
@@ -30,7 +33,27 @@ pub enum Step {
 // ..and otherwise a refusal.
 pub enum StepRead {
     Good(Step),
-    Refused,
+    Refused(Fault),
+}
+
+// Why a step is refused.
+pub enum Fault {
+    // It is none of the allowed.
+    Unallowed,
+    // It can do nothing: no bit of its register can be written.
+    Idle,
+}
+
+impl Fault {
+    // The number returned.
+    pub fn number(self) -> u8
+        ensures { λ r. ⌜ r ≡ faultNumber self ⌝ }
+    {
+        match self {
+            Fault::Unallowed => 7,
+            Fault::Idle => 11,
+        }
+    }
 }
 
 // Whether a group has a register of this index.
@@ -41,7 +64,7 @@ pub fn is_named(group: u8, index: u8) -> bool
 }
 
 // Whether a step is legal.
-pub fn is_legal(step: Step) -> bool
+fn is_legal(step: Step) -> bool
     ensures { λ r. ⌜ r ≡ legal step ⌝ }
 {
     match step {
@@ -63,6 +86,51 @@ pub fn is_legal(step: Step) -> bool
             blue: _,
         } => true,
     }
+}
+
+// Whether no bit of a register can be written.
+fn is_unwritable(group: u8, index: u8) -> bool
+    ensures { λ r. ⌜ r ≡ unwritable group index ⌝ }
+{
+    writable(group_at(group), index) == 0
+}
+
+// Whether a step can do nothing.
+fn is_idle(step: Step) -> bool
+    ensures { λ r. ⌜ r ≡ idle step ⌝ }
+{
+    match step {
+        Step::Set {
+            group,
+            index,
+            value: _,
+        } => is_unwritable(group, index),
+        Step::Field {
+            group,
+            index,
+            value: _,
+            mask: _,
+        } => is_unwritable(group, index),
+        Step::Colour {
+            entry: _,
+            red: _,
+            green: _,
+            blue: _,
+        } => false,
+    }
+}
+
+// What a step comes to: it passes, or why it is refused.
+pub fn judge(step: Step) -> StepRead
+    ensures { λ r. ⌜ r ≡ judged step ⌝ }
+{
+    if !is_legal(step) {
+        return StepRead::Refused(Fault::Unallowed);
+    }
+    if is_idle(step) {
+        return StepRead::Refused(Fault::Idle);
+    }
+    StepRead::Good(step)
 }
 
 // Six bytes by their kind, and the bytes that have to be 0.
@@ -92,7 +160,7 @@ fn shape(a: u8, b: u8, c: u8, d: u8, e: u8, f: u8) -> StepRead
             blue: e,
         });
     }
-    StepRead::Refused
+    StepRead::Refused(Fault::Unallowed)
 }
 
 // Six bytes read as a step, or refused.
@@ -100,12 +168,9 @@ pub fn of_bytes(a: u8, b: u8, c: u8, d: u8, e: u8, f: u8) -> StepRead
     ensures { λ r. ⌜ r ≡ stepOf (a ∷ b ∷ c ∷ d ∷ e ∷ f ∷ []) ⌝ }
 {
     let StepRead::Good(step) = shape(a, b, c, d, e, f) else {
-        return StepRead::Refused;
+        return StepRead::Refused(Fault::Unallowed);
     };
-    if is_legal(step) {
-        return StepRead::Good(step);
-    }
-    StepRead::Refused
+    judge(step)
 }
 
 // The step at a place of a list of bytes. Fewer than six bytes are no step.
@@ -113,10 +178,10 @@ pub fn read_at(list: &[u8], place: usize) -> StepRead
     ensures { λ r. ⌜ r ≡ readAt (now (list .entry)) place ⌝ }
 {
     if list.len() < 6 {
-        return StepRead::Refused;
+        return StepRead::Refused(Fault::Unallowed);
     }
     if list.len() - 6 < place {
-        return StepRead::Refused;
+        return StepRead::Refused(Fault::Unallowed);
     }
     of_bytes(
         list[place],

@@ -1,7 +1,7 @@
 -- What the writer makes of a list of steps, six bytes each (document 01, Scripts; Numbers returned): 8 for
--- a list that is not 1 to 1,008 whole steps, then 7 for the first step that is none of the allowed, then 9
--- for an output under 512 bytes a block; else the file, with the bytes after it as they were. A block is
--- laid out as specs/Block of the crate script says. The round trips are proofs/RoundTrip.
+-- a list that is not 1 to 1,008 whole steps, then 7 or, by document 02, P2, 11 for the first step that does
+-- not pass, then 9 for an output under 512 bytes a block; else the file, with the bytes after it as they
+-- were. A block is laid out as specs/Block of the crate script says. The round trips are proofs/RoundTrip.
 use Prim.Native.Nat.{ℕ, zero, suc, _+_, _-_, _*_, _/_, _%_, min}
 use mathlib.Core.List.{List, [], _∷_, _++_}
 use mathlib.Core.Bool.{Bool, cond, not}
@@ -12,10 +12,12 @@ use Rattle.lists.specs.Put.{put}
 use Rattle.lists.specs.Tab.{tab}
 use Rattle.lists.specs.Units.{wholeUnits}
 use Rattle.script.specs.Block.{lastMark, withCheck}
-use Rattle.script.specs.File.{stepPlace, firstBadStep}
-use Rattle.script.specs.Numbers.{ofRefusal}
+use Rattle.script.specs.File.{stepPlace, stepsChecked}
+use Rattle.script.specs.Numbers.{ofRefusal, stepsTable}
 use Rattle.script.specs.declared.Layout.the-variants.{Plain, Blocks as InBlocks}
-use Rattle.script.specs.declared.Refusal.the-variants.{Length, Step, Room}
+use Rattle.script.specs.declared.Refusal.the-variants.{Length, Room}
+use Rattle.script.specs.declared.Checked.{Checked}
+use Rattle.script.specs.declared.Checked.the-variants.{Accepted, Refused as NotAccepted}
 use Rattle.writer.specs.declared.Written.{Written}
 use Rattle.writer.specs.declared.Written.the-variants.{Blocks, Refused}
 
@@ -51,13 +53,14 @@ blocksTo s n (suc k) = blocksTo s n k ++ blockOf s k n
 abbrev pub fileOf : List ℕ → List ℕ
 fileOf s = blocksTo s (blocksFor s) (blocksFor s)
 
--- 8, 7, 9; else the number of blocks
+-- steps that pass want 512 bytes a block
+abbrev pub ifRoom : Checked → List ℕ → ℕ → Written
+ifRoom (Accepted m) s room = cond (ltb room (512 * blocksFor s)) (Refused Room) (Blocks (blocksFor s))
+ifRoom (NotAccepted r) s room = Refused r
+
+-- 8, then 7 or 11, then 9; else the number of blocks
 unfoldable pub written : List ℕ → ℕ → Written
-written s room =
-    cond (not (wholeSteps s)) (Refused Length)
-    (cond (ltb (firstBadStep Plain s (length s / 6)) (length s / 6)) (Refused (Step (firstBadStep Plain s (length s / 6))))
-    (cond (ltb room (512 * blocksFor s)) (Refused Room)
-    (Blocks (blocksFor s))))
+written s room = cond (not (wholeSteps s)) (Refused Length) (ifRoom (stepsChecked Plain s (length s / 6)) s room)
 
 -- what the lent output then holds: a refusal changes no byte
 abbrev pub leftBy : Written → List ℕ → List ℕ → List ℕ
@@ -72,7 +75,7 @@ ofWritten (Refused r) = ofRefusal r
 abbrev pub listTable : List ℕ → ℕ → Returned
 listTable s room =
     cond (not (wholeSteps s)) (returned 8 0)
-    (cond (ltb (firstBadStep Plain s (length s / 6)) (length s / 6)) (returned 7 (firstBadStep Plain s (length s / 6)))
+    (stepsTable Plain s (length s / 6)
     (cond (ltb room (512 * blocksFor s)) (returned 9 0)
     (returned 0 (blocksFor s))))
 

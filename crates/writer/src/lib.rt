@@ -1,5 +1,5 @@
 // The writer: a list of steps, six bytes each, 1 to 1,008 of them, into the blocks of a script file in a lent
-// output (document 01, Scripts; numbers 8, 7 and 9 in that order). A refusal changes no byte of the output,
+// output (document 01, Scripts; document 02, P2; numbers 8, 7 or 11, and 9 in that order). A refusal changes no byte of the output,
 // and the bytes after the file keep their value. The definition is specs/Write; that reading back what was
 // written gives the same steps, and writing the steps of an accepted file the same bytes, is proofs/RoundTrip.
 ghost use mathlib.Core.Path.{_≡_};
@@ -9,10 +9,11 @@ ghost use Rattle.lists.specs.Put.{put};
 ghost use Rattle.writer.specs.Write.{stepsHere, header, places, blockOf, blocksTo, written, leftBy, ofWritten, listTable};
 use lists::byte_at;
 use lists::is_whole;
+use script::Checked;
 use script::Layout;
 use script::Refusal;
+use script::check_steps;
 use script::check_word;
-use script::first_bad_step;
 use script::last_mark;
 
 // What the writer answers: the number of blocks, or the refusal.
@@ -86,7 +87,7 @@ fn put_blocks(list: &[u8], n: usize, out: &mut [u8])
     }
 }
 
-// A list of steps written as a file: 8, then 7, then 9; else the number of blocks.
+// A list of steps written as a file: 8, then 7 or 11, then 9; else the number of blocks.
 pub fn write(list: &[u8], out: &mut [u8]) -> Written
     ensures { λ r. ⌜ r ≡ written (now (list .entry)) (length (now (out .entry))) ⌝ }
     ensures { λ r. ⌜ ofWritten r ≡ listTable (now (list .entry)) (length (now (out .entry))) ⌝ }
@@ -95,15 +96,15 @@ pub fn write(list: &[u8], out: &mut [u8]) -> Written
     if !is_whole(list.len(), 6, 1008) {
         return Written::Refused(Refusal::Length);
     }
-    let m = list.len() / 6;
-    let j = first_bad_step(list, Layout::Plain, m);
-    if j < m {
-        return Written::Refused(Refusal::Step(j));
+    match check_steps(list, Layout::Plain, list.len() / 6) {
+        Checked::Refused(r) => Written::Refused(r),
+        Checked::Accepted(_) => {
+            let n = (list.len() + 503) / 504;
+            if out.len() < 512 * n {
+                return Written::Refused(Refusal::Room);
+            }
+            put_blocks(list, n, out);
+            Written::Blocks(n)
+        }
     }
-    let n = (list.len() + 503) / 504;
-    if out.len() < 512 * n {
-        return Written::Refused(Refusal::Room);
-    }
-    put_blocks(list, n, out);
-    Written::Blocks(n)
 }

@@ -57,7 +57,7 @@ returns-3 c =
     let a = start-r (c .before .before .before .before .before .before .before) .args in
     let t = c .before .before .before .before .before .before .before .before .before .before .before .translate .ensures in
     let l = listed-text (now (a .file)) (length (now (a .work))) (now (a .out)) _ (is-r (c .before .before .before .before .before .before .before)) (c .before .before .before .before .before .if1 .left)
-    (ap refusal (c .before .before .before .number-of .ensures)) (c .before .before .add-refusal .ensures) in
+    (ap refusal (c .before .before .before .number .ensures)) (c .before .before .add-refusal .ensures) in
     (l .0, (l .1, t .1 .0 ∙ ap (λ (x : Translated). leftBy x (now (a .file)) (now (a .work))) (t .0)))
 
 -- the header and the lines
@@ -84,6 +84,7 @@ list-spec =
     (λ c. search needs)
     returns
     (λ c κs. search needs)
+    (λ c. search needs)
     (λ c κs. search needs)
     (λ c. search needs)
     (λ c. omega (arith, few (c .before) .few))

@@ -1,11 +1,12 @@
 -- `check_file` meets its contract: a return to each case, in the order of the definition, with what the callees found.
-use mathlib.Core.Path.{_≡_, sym, _∙_}
+use mathlib.Core.Path.{_≡_, sym, ap, _∙_}
 use mathlib.Core.Bool.{true}
 use borrow.Author.Needs.{needs}
 use borrow.Author.Tests.{not-true, not-false}
 use denote.Ref.{now}
-use Rattle.script.specs.File.{wholeBlocks}
-use Rattle.script.proofs.Checking.{answered, check-length, check-block, check-step, check-accepted}
+use Rattle.script.specs.File.{wholeBlocks, stepsChecked}
+use Rattle.script.specs.declared.Layout.the-variants.{Blocks}
+use Rattle.script.proofs.Checking.{answered, check-length, check-block, check-all}
 use Rattle.script.proofs.check_file.Statement.{statement}
 use Rattle.script.proofs.check_file.Tie as tie
 
@@ -26,23 +27,14 @@ returns-2 c =
     let f = now (e .before .before .before .args .file) in
     answered f (check-block f (whole e) _ (c .before .first-bad-block .ensures) (c .if2 .taken))
 
--- 7
+-- what the steps come to
 returns-3 : tie.Need-returns-3
 returns-3 c =
-    let b = c .before .before .before in
+    let b = c .before .before in
     let e = b .before .before in
     let f = now (e .before .before .before .args .file) in
-    answered f (check-step f (whole e) _ (b .before .first-bad-block .ensures) (b .if2 .left)
-    _ _ (c .before .before .step-count .ensures) (c .before .first-bad-step .ensures) (c .if3 .taken))
-
--- accepted
-returns-4 : tie.Need-returns-4
-returns-4 c =
-    let b = c .before .before .before in
-    let e = b .before .before in
-    let f = now (e .before .before .before .args .file) in
-    answered f (check-accepted f (whole e) _ (b .before .first-bad-block .ensures) (b .if2 .left)
-    _ _ (c .before .before .step-count .ensures) (c .before .first-bad-step .ensures) (c .if3 .left))
+    answered f (check-all f (whole e) _ (b .before .first-bad-block .ensures) (b .if2 .left)
+    ∙ sym (c .check-steps .ensures ∙ ap (stepsChecked Blocks f) (c .before .step-count .ensures)))
 
 pub check-file-spec : {M : Type 1} → statement M
 check-file-spec =
@@ -54,5 +46,4 @@ check-file-spec =
     returns-2
     (λ c κs. search needs)
     (λ c κs. search needs)
-    returns-3
-    returns-4)
+    returns-3)

@@ -14,21 +14,23 @@ returns c =
     let a = c .before .before .before .args in
     sym (next-past (now (a .file)) (a .at) (omega (arith, c .before .step-count .ensures)))
 
--- six bytes that are no step
+-- a step
 returns-2 : tie.Need-returns-2
 returns-2 c =
-    let t = c .before .before .before in
+    let k = c .before in
+    let t = k .before .before .before in
     let a = t .before .before .before .args in
     sym (next-there (now (a .file)) (a .at) (omega (arith, t .before .step-count .ensures))
-    ∙ ap (λ r. asNext r (a .at)) (sym (c .before .before .step-at .ensures) ∙ c .enum-told .given .1))
+    ∙ ap (λ r. asNext r (a .at)) (sym (k .before .before .step-at .ensures) ∙ k .step .given .1))
 
--- a step
+-- six bytes that are no step
 returns-3 : tie.Need-returns-3
 returns-3 c =
-    let t = c .before .before .before .before in
+    let k = c .before in
+    let t = k .before .before .before in
     let a = t .before .before .before .args in
     sym (next-there (now (a .file)) (a .at) (omega (arith, t .before .step-count .ensures))
-    ∙ ap (λ r. asNext r (a .at)) (sym (c .before .before .before .step-at .ensures) ∙ c .before .step .given .1))
+    ∙ ap (λ r. asNext r (a .at)) (sym (k .before .before .step-at .ensures) ∙ k .why .given .1))
 
 pub next-at-spec : {M : Type 1} → statement M
 next-at-spec =

@@ -1,4 +1,4 @@
--- `of_bytes` meets its contract: a shape that is none of the kinds goes straight out, and `is_legal` decides on the others.
+-- `of_bytes` meets its contract: a shape that is none of the kinds goes straight out, and `judge` decides on the others.
 use borrow.Author.Needs.{needs}
 use mathlib.Core.Path.{sym, _∙_}
 use Rattle.steps.specs.Step.{stepOf}
@@ -10,19 +10,12 @@ returns : tie.Need-returns
 unfolding stepOf
 returns c = rw (sym (c .before .before .shape .ensures) ∙ c .enum-told .given .1)
 
--- a legal step
+-- one of them
 returns-2 : tie.Need-returns-2
 unfolding stepOf
 returns-2 c =
-    let k = c .before .before .before in
-    rw (sym (k .before .before .shape .ensures) ∙ k .step .given .1, ← c .before .is-legal .ensures, c .if1 .taken)
-
--- a step that is not legal
-returns-3 : tie.Need-returns-3
-unfolding stepOf
-returns-3 c =
-    let k = c .before .before .before in
-    rw (sym (k .before .before .shape .ensures) ∙ k .step .given .1, ← c .before .is-legal .ensures, c .if1 .left)
+    let k = c .before .before in
+    rw (sym (k .before .before .shape .ensures) ∙ k .step .given .1) (c .judge .ensures)
 
 pub of-bytes-spec : {M : Type 1} → statement M
 of-bytes-spec =
@@ -33,5 +26,4 @@ of-bytes-spec =
     (λ c. search needs)
     returns
     (λ c κs. search needs)
-    returns-2
-    returns-3)
+    returns-2)

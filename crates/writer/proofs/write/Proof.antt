@@ -24,39 +24,40 @@ returns c =
     let e = answered s (length (now (a .out))) (write-length s _ (sym (c .before .is-whole .ensures) ∙ not-true (c .before .is-whole .result) (c .if1 .taken))) in
     (e .0, (e .1, refl))
 
--- 7
+-- 9
 returns-2 : tie.Need-returns-2
 returns-2 c =
-    let w = c .before .before in
+    let k = c .before in
+    let w = k .before .before .before in
     let a = w .before .before .before .before .args in
     let s = now (a .list) in
-    let e = answered s (length (now (a .out))) (write-step s _ (whole w) _ (c .before .first-bad-step .ensures) (c .if2 .taken)) in
-    (e .0, (e .1, refl))
-
--- 9
-returns-3 : tie.Need-returns-3
-returns-3 c =
-    let n = c .before in
-    let w = n .before .before in
-    let a = w .before .before .before .before .args in
-    let s = now (a .list) in
-    let e = answered s (length (now (a .out))) (write-room s _ (whole w) _ (n .before .first-bad-step .ensures) (n .if2 .left) (c .if3 .taken)) in
+    let e = answered s (length (now (a .out))) (write-room s _ (whole w) _ (sym (k .before .before .check-steps .ensures) ∙ k .enum-told .given .1) (c .if2 .taken)) in
     (e .0, (e .1, refl))
 
 put-blocks-requires : tie.Need-put-blocks-requires
 put-blocks-requires c κs =
-    let w = c .before .before .before .before in
+    let w = c .before .before .before .before .before in
     omega (arith, units 6 1008 (length (now (w .before .before .before .before .args .list))) (whole w))
+
+-- 7 or 11
+returns-3 : tie.Need-returns-3
+returns-3 c =
+    let k = c .before in
+    let w = k .before .before .before in
+    let a = w .before .before .before .before .args in
+    let s = now (a .list) in
+    let e = answered s (length (now (a .out))) (write-step s _ (whole w) _ (sym (k .before .before .check-steps .ensures) ∙ k .r .given .1)) in
+    (e .0, (e .1, refl))
 
 -- the file
 returns-4 : tie.Need-returns-4
 returns-4 c =
     let r = c .before .before .before .before in
-    let n = r .before in
-    let w = n .before .before in
+    let k = r .before in
+    let w = k .before .before .before in
     let a = w .before .before .before .before .args in
     let s = now (a .list) in
-    let e = answered s (length (now (a .out))) (write-done s _ (whole w) _ (n .before .first-bad-step .ensures) (n .if2 .left) (r .if3 .left)) in
+    let e = answered s (length (now (a .out))) (write-done s _ (whole w) _ (sym (k .before .before .check-steps .ensures) ∙ k .enum-told .given .1) (r .if2 .left)) in
     (e .0, (e .1, c .before .before .put-blocks .ensures))
 
 pub write-spec : {M : Type 1} → statement M
@@ -66,10 +67,12 @@ write-spec =
     (λ c κs. search needs)
     returns
     (λ c κs. search needs)
+    (λ c. search needs)
+    (λ c. search needs)
+    (λ c. search needs)
+    (λ c. search needs)
     returns-2
-    (λ c. search needs)
-    (λ c. search needs)
-    returns-3
     put-blocks-requires
+    returns-3
     (λ c. search needs)
     returns-4)

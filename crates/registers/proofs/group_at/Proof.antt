@@ -1,8 +1,8 @@
--- By the number.
+-- `group_at` meets its contract: an arm to each number.
 use borrow.Author.Tests.{ne-eqb}
 use Rattle.registers.specs.Groups.{groupAt}
-use Rattle.dump.proofs.group_at.Statement.{statement}
-use Rattle.dump.proofs.group_at.Tie as tie
+use Rattle.registers.proofs.group_at.Statement.{statement}
+use Rattle.registers.proofs.group_at.Tie as tie
 
 pub group-at-spec : {M : Type 1} → statement M
 unfolding groupAt
