@@ -355,9 +355,40 @@ fn case_p2_2() -> [u8; 16] {
 
 // P2.3. FIELD XR60, mask 00h; FIELD XR67, mask 01h, value 01h; SET CR00 FFh; SET AR00 3Fh; a COLOUR.
 fn case_p2_3() -> [u8; 16] {
-    let a = answer(&[
-        2, 3, 0x60, 0x00, 0x00, 0, 2, 3, 0x67, 0x01, 0x01, 0, 1, 0, 0x00, 0xFF, 0, 0, 1, 8, 0x00, 0x3F, 0, 0, 3, 0x00, 0x3F, 0x00, 0x15, 0,
-    ]);
+    let a = answer(
+        &[
+            2,
+            3,
+            0x60,
+            0x00,
+            0x00,
+            0,
+            2,
+            3,
+            0x67,
+            0x01,
+            0x01,
+            0,
+            1,
+            0,
+            0x00,
+            0xFF,
+            0,
+            0,
+            1,
+            8,
+            0x00,
+            0x3F,
+            0,
+            0,
+            3,
+            0x00,
+            0x3F,
+            0x00,
+            0x15,
+            0,
+        ],
+    );
     let mut out = [0u8; 16];
     out[0] = a[0];
     out[1] = a[1];
