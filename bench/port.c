@@ -292,7 +292,11 @@ static int scripts(void) {
     size_t blocks;
     for (int k = 0; k < STEPS; k++) {
         uint8_t kind = (uint8_t)(1 + drawn(3)), group = (uint8_t)drawn(9), mask = (uint8_t)drawn(256), value = (uint8_t)drawn(256);
-        uint8_t index = group < 6 ? (uint8_t)drawn(256) : group == 8 ? (uint8_t)drawn(0x15) : 0;
+        uint8_t index = group == 8 ? (uint8_t)drawn(0x15) : 0;
+        if (group < 6) { // a register with a writable bit: a step on another is refused
+            do index = (uint8_t)drawn(256);
+            while (!writable[group][index]);
+        }
         uint8_t set[] = {1, group, index, value, 0, 0}, field[] = {2, group, index, value & mask, mask, 0};
         uint8_t colour[] = {3, index, value, mask, group, 0};
         memcpy(steps + 6 * k, kind == 1 ? set : kind == 2 ? field : colour, 6);

@@ -35,6 +35,7 @@ static const char *meaning(unsigned number)
     case CHIPS69000_FILE_LENGTH: return "not 1 to 12 whole blocks of 512 bytes";
     case CHIPS69000_ROOM: return "the lent output is too small";
     case CHIPS69000_COMMAND: return "a command of no known form";
+    case CHIPS69000_IDLE: return "the step can do nothing, no bit of its register can be written";
     case CHIPS69000_NO_STATE: return "bytes of this length are no state";
     default: return "a number that the header does not name";
     }
@@ -61,7 +62,7 @@ static void look_at_script(const char *path, unsigned number, size_t value)
 {
     if (number == CHIPS69000_BLOCK)
         fail("%s: block %zu: %s (number %u)", path, value, meaning(number), number);
-    if (number == CHIPS69000_STEP)
+    if (number == CHIPS69000_STEP || number == CHIPS69000_IDLE)
         fail("%s: step %zu: %s (number %u)", path, value, meaning(number), number);
     if (number != CHIPS69000_DONE)
         fail("%s: %s (number %u)", path, meaning(number), number);

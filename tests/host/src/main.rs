@@ -1,6 +1,6 @@
 //! The library compared with an independent model, from fixed seeds: resets, port accesses, colours, runs of commands, bytes of video
-//! memory and transfers, scripts whole and damaged, scripts played, and bytes that are no state. A failure prints the input that
-//! differs, and the status is not 0.
+//! memory and transfers, steps that are refused, scripts whole and damaged, scripts played, and bytes that are no state. A failure
+//! prints the input that differs, and the status is not 0.
 
 mod library;
 mod model;
@@ -234,44 +234,173 @@ fn transfers(r: &mut Random, rounds: usize) -> usize {
     done
 }
 
-fn step(r: &mut Random) -> [u8; 6] {
-    if r.one_in(2000) {
-        return if r.one_in(2) { edge(r) } else { [r.byte() % 5, r.byte() % 10, r.byte(), r.byte(), r.byte(), 0] };
-    }
-    let group = r.below(9) as u8;
-    let index = match group {
-        0..=5 => r.byte(),
-        8 => r.below(0x15) as u8,
-        _ => 0,
-    };
-    let mask = r.byte();
-    match r.below(3) {
-        0 => [1, group, index, r.byte(), 0, 0],
-        1 => [2, group, index, r.byte() & mask, mask, 0],
-        _ => [3, r.byte(), r.byte(), r.byte(), r.byte(), 0],
-    }
-}
-
-/// A step at the edge of what may be named: AR14 is the last index, and AR the last group.
-fn edge(r: &mut Random) -> [u8; 6] {
-    let (group, index) = r.of(&[(8, 0x13), (8, 0x14), (8, 0x15), (8, 0x34), (9, 0x00), (9, 0x14)]);
+/// A SET or a FIELD of a register.
+fn step_on(r: &mut Random, group: u8, index: u8) -> [u8; 6] {
     let (value, mask) = (r.byte(), r.byte());
     if r.one_in(2) { [1, group, index, value, 0, 0] } else { [2, group, index, value & mask, mask, 0] }
 }
 
-/// A step at the edge is put over one of a block, and the check mended.
-fn put_edge(r: &mut Random, block: &mut [u8]) {
-    let at = 6 + 6 * r.below(u32::from(block[2]).clamp(1, 84)) as usize;
-    block[at..at + 6].copy_from_slice(&edge(r));
+/// A step that is accepted, and seldom one at the edge or any bytes.
+fn step(rows: &Rows, r: &mut Random) -> [u8; 6] {
+    if r.one_in(2000) {
+        return if r.one_in(2) { edge(rows, r) } else { [r.byte() % 5, r.byte() % 10, r.byte(), r.byte(), r.byte(), 0] };
+    }
+    if r.one_in(3) {
+        return [3, r.byte(), r.byte(), r.byte(), r.byte(), 0];
+    }
+    let group = r.below(9) as u8;
+    let index = r.of(rows.live(group));
+    step_on(r, group, index)
+}
+
+/// A step on a register without a writable bit, listed or not.
+fn idle(rows: &Rows, r: &mut Random) -> [u8; 6] {
+    let group = r.below(6) as u8;
+    let mut index = r.byte();
+    while rows.writable(group as usize, index) != 0 {
+        index = r.byte();
+    }
+    let listed = rows.read_only(group);
+    if !listed.is_empty() && r.one_in(2) {
+        index = r.of(listed);
+    }
+    step_on(r, group, index)
+}
+
+/// A step at the edge of what is accepted: AR14 is the last index, and AR the last group; a register without a writable bit, and the same with
+/// a value outside its mask.
+fn edge(rows: &Rows, r: &mut Random) -> [u8; 6] {
+    let [_, group, index, ..] = idle(rows, r);
+    match r.below(8) {
+        0..=3 => {
+            let (group, index) = r.of(&[(8, 0x13), (8, 0x14), (8, 0x15), (8, 0x34), (9, 0x00), (9, 0x14)]);
+            step_on(r, group, index)
+        }
+        4 => [2, group, index, 0x81, 0x80, 0],
+        _ => step_on(r, group, index),
+    }
+}
+
+/// A step at the edge, or two, put over steps of a block, and the check mended.
+fn put_edge(rows: &Rows, r: &mut Random, block: &mut [u8]) {
+    for _ in 0..=r.below(2) {
+        let at = 6 + 6 * r.below(u32::from(block[2]).clamp(1, 84)) as usize;
+        block[at..at + 6].copy_from_slice(&edge(rows, r));
+    }
     script::mend(block);
 }
 
+const GOOD: [u8; 6] = [1, 3, 0x60, 0x43, 0, 0];
+const XR70: [u8; 6] = [1, 3, 0x70, 0x43, 0, 0];
+const AR15: [u8; 6] = [1, 8, 0x15, 0x00, 0, 0];
+
+/// Lists of steps, each with the number that is due and the step that it names.
+fn cases() -> Vec<(Vec<[u8; 6]>, u8, usize)> {
+    let good = |count| vec![GOOD; count];
+    vec![
+        (vec![XR70], 11, 0),
+        (vec![[2, 3, 0x70, 0x43, 0x43, 0]], 11, 0),
+        (vec![[2, 3, 0x70, 0x00, 0x00, 0]], 11, 0),
+        (vec![[1, 3, 0x07, 0x43, 0, 0]], 11, 0), // an unlisted index
+        (vec![[2, 0, 0xFF, 0x00, 0xFF, 0]], 11, 0),
+        (vec![[1, 0, 0x19, 0x00, 0, 0]], 11, 0), // the first behind CR18
+        (vec![[1, 0, 0x22, 0x00, 0, 0]], 11, 0),
+        (vec![[1, 1, 0x05, 0x00, 0, 0]], 11, 0),
+        (vec![[1, 2, 0x09, 0x00, 0, 0]], 11, 0),
+        (vec![[1, 4, 0x00, 0xFF, 0, 0]], 11, 0),
+        (vec![[1, 5, 0x21, 0xFF, 0, 0]], 11, 0),
+        (vec![AR15], 7, 0),
+        (vec![[1, 6, 0x01, 0x00, 0, 0]], 7, 0),
+        (vec![[1, 9, 0x00, 0x00, 0, 0]], 7, 0),
+        (vec![[2, 3, 0x70, 0x01, 0xFE, 0]], 7, 0), // a bit outside its mask, on a register without a writable bit
+        (vec![[2, 3, 0x07, 0x80, 0x00, 0]], 7, 0),
+        (vec![[1, 3, 0x70, 0x43, 1, 0]], 7, 0),
+        (vec![[1, 3, 0x70, 0x43, 0, 1]], 7, 0),
+        (vec![[0, 3, 0x70, 0x43, 0, 0]], 7, 0),
+        (vec![GOOD, XR70, AR15, GOOD], 11, 1), // the first of two reports
+        (vec![GOOD, AR15, XR70, GOOD], 7, 1),
+        ([good(84), vec![XR70, AR15]].concat(), 11, 84),
+        ([good(83), vec![AR15, XR70]].concat(), 7, 83),
+        ([good(1007), vec![XR70]].concat(), 11, 1007),
+        (vec![[2, 3, 0x60, 0x00, 0x00, 0]], 0, 0), // no bit of a register that has some
+        (vec![[2, 3, 0x60, 0xBC, 0xBC, 0]], 0, 0), // none but bits that are not writable
+        (vec![[2, 0, 0x11, 0x80, 0x80, 0], [1, 0, 0x00, 0x5F, 0, 0], [1, 0, 0x06, 0xFF, 0, 0]], 0, 0), // under protection
+        (vec![[1, 8, 0x00, 0x3F, 0, 0], [1, 8, 0x14, 0x0F, 0, 0]], 0, 0),
+        (vec![[1, 6, 0x00, 0xE3, 0, 0], [1, 7, 0x00, 0x00, 0, 0]], 0, 0),
+        (vec![[3, 0x70, 0x70, 0x70, 0x70, 0]], 0, 0),
+    ]
+}
+
+/// A step on every index of every group, SET and FIELD, checked.
+fn singles(rows: &Rows, r: &mut Random) -> [usize; 2] {
+    let (mut tried, mut tally) = (0, Tally::default());
+    for (group, index) in (0..=9).flat_map(|g| (0..=255).map(move |i| (g, i))) {
+        let mask = r.byte();
+        for step in [[1, group, index, r.byte(), 0, 0], [2, group, index, r.byte() & mask, mask, 0], [2, group, index, 0, 0, 0]] {
+            let file = script::file(&step);
+            let checked = library::check_script(&file);
+            expect(&format!("step {step:02X?}"), checked, script::check(rows, &file));
+            tally.add(checked.0);
+            tried += 1;
+        }
+    }
+    [tried, tally.idle]
+}
+
+/// These lists written, and as files checked, translated and played, by the library and by the model: the number and the step are the
+/// ones that are due, also where the output is too small, and a refusal changes no byte of the file, the commands or the state.
+fn judged(rows: &Rows, r: &mut Random) -> usize {
+    for (k, (steps, number, place)) in cases().iter().enumerate() {
+        let list = steps.concat();
+        let file = script::file(&list);
+        let due = |value: usize| if *number == 0 { (0, value) } else { (*number, *place) };
+        let input = format!("case {k}, {} steps, number {number} due", steps.len());
+        expect(&format!("{input}: the model"), script::check(rows, &file), due(steps.len()));
+        expect(&format!("{input}: checked"), library::check_script(&file), due(steps.len()));
+        for room in [file.len() + 7, 0] {
+            let mut out: Vec<u8> = (0..room).map(|_| r.byte()).collect();
+            let mut kept = out.clone();
+            let want = if *number == 0 && room == 0 { (9, 0) } else { due(file.len() / 512) };
+            expect(&format!("{input}: written by the model"), script::write(rows, &list, &mut kept), want);
+            expect(&format!("{input}: written"), library::write_script(&list, &mut out), want);
+            expect_bytes(&format!("{input}: written"), &out, &kept);
+        }
+        for room in [32 * steps.len() + 7, 0] {
+            let mut out: Vec<u8> = (0..room).map(|_| r.byte()).collect();
+            let mut kept = out.clone();
+            let translated = library::translate_script(&file, &mut out);
+            expect(&format!("{input}: translated"), translated, script::translate(rows, &file, &mut kept));
+            expect(&format!("{input}: translated"), translated.0, if *number == 0 && room == 0 { 9 } else { *number });
+            expect_bytes(&format!("{input}: translated"), &out, &kept);
+            let mut s = start(r, rows);
+            s[768 + 0x70] |= 2;
+            let got = played(rows, &format!("{input}: played"), &mut s, &file, &mut out);
+            expect(&format!("{input}: played"), got, translated.0);
+        }
+    }
+    cases().len()
+}
+
+/// How often a number was 0, and how often 11.
+#[derive(Default)]
+struct Tally {
+    done: usize,
+    idle: usize,
+}
+
+impl Tally {
+    fn add(&mut self, number: u8) {
+        self.done += usize::from(number == 0);
+        self.idle += usize::from(number == 11);
+    }
+}
+
 /// Lists of steps written as files; those files, whole and damaged, checked and translated.
-fn scripts(r: &mut Random, rounds: usize) -> [usize; 3] {
-    let mut accepted = [0; 3];
+fn scripts(rows: &Rows, r: &mut Random, rounds: usize) -> [Tally; 3] {
+    let mut tallies: [Tally; 3] = Default::default();
     for round in 0..rounds {
         let count = if r.one_in(8) { r.below(1020) } else { r.below(180) };
-        let mut list: Vec<u8> = (0..count).flat_map(|_| step(r)).collect();
+        let mut list: Vec<u8> = (0..count).flat_map(|_| step(rows, r)).collect();
         if r.one_in(20) {
             list.push(0);
         }
@@ -281,9 +410,9 @@ fn scripts(r: &mut Random, rounds: usize) -> [usize; 3] {
         let mut kept = file.clone();
         let input = format!("script {round}: {count} steps to {room} bytes");
         let written = library::write_script(&list, &mut file);
-        expect(&input, written, script::write(&list, &mut kept));
+        expect(&input, written, script::write(rows, &list, &mut kept));
         expect_bytes(&input, &file, &kept);
-        accepted[0] += usize::from(written.0 == 0);
+        tallies[0].add(written.0);
         file.truncate(512 * written.1.min(12));
         if r.one_in(2) && !file.is_empty() {
             // a byte changed, and half the time the block's check mended
@@ -295,78 +424,82 @@ fn scripts(r: &mut Random, rounds: usize) -> [usize; 3] {
                 script::mend(b);
             }
         } else if file.len() >= 512 && r.one_in(4) {
-            put_edge(r, &mut file[..512]);
+            put_edge(rows, r, &mut file[..512]);
         }
         if r.one_in(20) {
             file.truncate(r.below(file.len() as u32 + 1) as usize);
         }
         let input = format!("script {round}, {} bytes", file.len());
         let checked = library::check_script(&file);
-        expect(&input, checked, script::check(&file));
-        accepted[1] += usize::from(checked.0 == 0);
+        expect(&input, checked, script::check(rows, &file));
+        tallies[1].add(checked.0);
         let most = 32 * count + 40;
         let room = if r.one_in(5) { r.below(most) } else { most } as usize;
         let mut commands: Vec<u8> = (0..room).map(|_| r.byte()).collect();
         let mut kept = commands.clone();
         let translated = library::translate_script(&file, &mut commands);
-        expect(&format!("{input}, translated"), translated, script::translate(&file, &mut kept));
+        expect(&format!("{input}, translated"), translated, script::translate(rows, &file, &mut kept));
         expect_bytes(&format!("{input}, translated"), &commands, &kept);
-        accepted[2] += usize::from(translated.0 == 0);
+        tallies[2].add(translated.0);
     }
-    accepted
+    tallies
 }
 
-/// Files, a few of them damaged, played on states whose indexes and turn are stale and whose colour may be half loaded: what is left is
-/// what the commands do; registers, AR among them, and colours are what the steps say by name; and there is a picture if there was one.
-/// Closed ports refuse the first command.
-fn plays(rows: &Rows, r: &mut Random, rounds: usize) -> [usize; 2] {
-    let (mut expected, mut by_name, mut refused) = (Vec::new(), 0, 0);
+/// A file played on a state: what is left is what the commands do; registers, AR among them, and colours are what the steps say by
+/// name; and there is a picture if there was one. A refusal changes nothing, and closed ports refuse the first command. The number.
+fn played(rows: &Rows, input: &str, s: &mut [u8], file: &[u8], commands: &mut [u8]) -> u8 {
+    let mut expected = Vec::new();
+    let mut kept = commands.to_vec();
+    let before = Chip::from_bytes(s);
+    let index = library::port_read(s, 0x3C0);
+    let got = library::play(s, file, commands);
+
+    let mut after = before.clone();
+    let translated = script::translate(rows, file, &mut kept);
+    let want = match translated {
+        (0, k) => after.run(rows, &kept[..4 * k], k),
+        (number, value) => (number, 0, value),
+    };
+    expect(input, got, want);
+    after.to_bytes(&mut expected);
+    expect_bytes(input, s, &expected);
+    expect_bytes(&format!("{input}, commands"), commands, &kept);
+
+    if translated.0 != 0 || !before.is_open() {
+        expect(&format!("{input}, refused"), Chip::from_bytes(s) == before, true);
+        return got.0;
+    }
+    let mut said = before;
+    script::steps(rows, file).unwrap().iter().for_each(|step| said.apply(rows, step));
+    expect(&format!("{input}, carried out"), got, (0, translated.1, 0));
+    expect_bytes(&format!("{input}, by name"), &Chip::from_bytes(s).named(), &said.named());
+    expect(&format!("{input}, bit 5 of 3C0h"), library::port_read(s, 0x3C0).1 & 0x20, index.1 & 0x20);
+    0
+}
+
+/// Files, a few of them damaged, played on states whose indexes and turn are stale and whose colour may be half loaded.
+fn plays(rows: &Rows, r: &mut Random, rounds: usize) -> Tally {
+    let mut tally = Tally::default();
     for round in 0..rounds {
         let mut s = start(r, rows);
         for _ in 0..r.below(30) {
             library::port_write(&mut s, port(r), r.byte());
         }
         let count = 1 + r.below(60) as usize;
-        let list: Vec<u8> = (0..count).flat_map(|_| step(r)).collect();
+        let list: Vec<u8> = (0..count).flat_map(|_| step(rows, r)).collect();
         let mut file = vec![0; 512];
         let written = library::write_script(&list, &mut file);
         if written.0 != 0 || r.one_in(10) {
             file[r.below(512) as usize] ^= 1 << r.below(8);
         } else if r.one_in(10) {
-            put_edge(r, &mut file);
+            put_edge(rows, r, &mut file);
         }
         let room = if r.one_in(20) { r.below(32 * count as u32) } else { 32 * count as u32 + r.below(9) } as usize;
         let mut commands: Vec<u8> = (0..room).map(|_| r.byte()).collect();
-        let mut kept = commands.clone();
         let input = format!("play {round}: {:02X?} in {room} bytes", &file[6..6 + 6 * count]);
-        let before = Chip::from_bytes(&s);
-        let index = library::port_read(&mut s, 0x3C0);
-        let got = library::play(&mut s, &file, &mut commands);
-
-        let mut after = before.clone();
-        let translated = script::translate(&file, &mut kept);
-        let want = match translated {
-            (0, k) => after.run(rows, &kept[..4 * k], k),
-            (number, value) => (number, 0, value),
-        };
-        expect(&input, got, want);
-        after.to_bytes(&mut expected);
-        expect_bytes(&input, &s, &expected);
-        expect_bytes(&format!("{input}, commands"), &commands, &kept);
-
-        if translated.0 != 0 || !before.is_open() {
-            expect(&format!("{input}, refused"), Chip::from_bytes(&s) == before, true);
-            refused += 1;
-            continue;
-        }
-        let mut said = before;
-        script::steps(&file).unwrap().iter().for_each(|step| said.apply(rows, step));
-        expect(&format!("{input}, carried out"), got, (0, translated.1, 0));
-        expect_bytes(&format!("{input}, by name"), &Chip::from_bytes(&s).named(), &said.named());
-        expect(&format!("{input}, bit 5 of 3C0h"), library::port_read(&mut s, 0x3C0).1 & 0x20, index.1 & 0x20);
-        by_name += 1;
+        tally.add(played(rows, &input, &mut s, &file, &mut commands));
     }
-    [by_name, refused]
+    tally
 }
 
 fn main() {
@@ -378,8 +511,20 @@ fn main() {
     println!("{} lengths that are no state's are refused", lengths(r));
     println!("{} bytes of memory agree", memory(r, 10_000));
     println!("{} transfers of 100000 are done and agree, the others are refused alike", transfers(r, 100_000));
-    let [written, checked, translated] = scripts(r, 20_000);
-    println!("20000 scripts agree: {written} written, {checked} accepted, {translated} translated, the others refused alike");
-    let [by_name, refused] = plays(&rows, r, 50_000);
-    println!("50000 scripts played agree: {by_name} did what they say by name, {refused} were refused alike and changed nothing");
+    println!("{} lists of steps are judged as is due", judged(&rows, r));
+    let [steps, idle] = singles(&rows, r);
+    println!("{steps} single steps agree, {idle} of them refused with 11");
+    let [written, checked, translated] = scripts(&rows, r, 20_000);
+    println!(
+        "20000 scripts agree: {} written, {} accepted, {} translated, the others refused alike, with 11 {}, {} and {} of them",
+        written.done, checked.done, translated.done, written.idle, checked.idle, translated.idle
+    );
+    let played = plays(&rows, r, 50_000);
+    println!(
+        "50000 scripts played agree: {} did what they say by name, {} were refused alike and changed nothing, with 11 {} of them",
+        played.done, 50_000 - played.done, played.idle
+    );
+    for (way, tally) in [("written", written), ("checked", checked), ("translated", translated), ("played", played)] {
+        assert!(tally.idle > 0, "no script that was {way} was refused with 11");
+    }
 }

@@ -1,4 +1,4 @@
-//! The chip, written from documents 01 and 02 (P1) and from nothing else of this repository but the rows of registers, which are read
+//! The chip, written from documents 01 and 02 (P1, P2) and from nothing else of this repository but the rows of registers, which are read
 //! from the definitions' text (crates/registers/specs): they are data, and have no second source here. The attribute registers' rows
 //! are written here, with the figures of the same one reading of chapter 12: a slip of the pen is found, another reading is not.
 
@@ -13,8 +13,13 @@ pub const GROUPS: [(&str, &str); 6] = [
     ("MR", include_str!("../../../crates/registers/specs/Multimedia.antt")),
 ];
 
-/// Writable bits and reset byte of a register, by group number and index.
-pub struct Rows(HashMap<(usize, u8), (u8, u8)>);
+/// Writable bits and reset byte of a register, by group number and index; and of each group the indexes whose register has a writable
+/// bit, and those that are listed and have none.
+pub struct Rows {
+    bytes: HashMap<(usize, u8), (u8, u8)>,
+    live: Vec<Vec<u8>>,
+    read_only: Vec<Vec<u8>>,
+}
 
 fn hex(word: &str) -> u8 {
     u8::from_str_radix(word.strip_prefix("0x").unwrap(), 16).unwrap()
@@ -35,15 +40,27 @@ impl Rows {
         // chapter 12 gives no reset, so it is 00h
         rows.extend((0x00..=0x0F).map(|i| ((AR, i), (0x3F, 0))));
         rows.extend([(0x10, 0xEF), (0x11, 0xFF), (0x12, 0x3F), (0x13, 0x0F), (0x14, 0x0F)].map(|(i, mask)| ((AR, i), (mask, 0))));
-        Rows(rows)
+        rows.extend([((MSR, 0), (0xEF, 0)), ((PALMASK, 0), (0xFF, 0))]);
+        let listed = |g: usize, live: bool| (0..=255).filter(|&i| rows.get(&(g, i)).is_some_and(|r| (r.0 != 0) == live)).collect();
+        let live = (0..=AR).map(|g| listed(g, true)).collect();
+        let read_only = (0..=AR).map(|g| listed(g, false)).collect();
+        Rows { bytes: rows, live, read_only }
     }
 
     pub fn writable(&self, g: usize, i: u8) -> u8 {
-        self.0.get(&(g, i)).map_or(0, |r| r.0)
+        self.bytes.get(&(g, i)).map_or(0, |r| r.0)
     }
 
     pub fn reset(&self, g: usize, i: u8) -> u8 {
-        self.0.get(&(g, i)).map_or(0, |r| r.1)
+        self.bytes.get(&(g, i)).map_or(0, |r| r.1)
+    }
+
+    pub fn live(&self, g: u8) -> &[u8] {
+        &self.live[g as usize]
+    }
+
+    pub fn read_only(&self, g: u8) -> &[u8] {
+        &self.read_only[g as usize]
     }
 }
 
@@ -219,11 +236,7 @@ impl Chip {
 
     /// A register receives a byte, by name.
     fn put(&mut self, rows: &Rows, g: usize, i: u8, v: u8) {
-        let mut mask = match g {
-            MSR => 0xEF,
-            PALMASK => 0xFF,
-            _ => rows.writable(g, i),
-        };
+        let mut mask = rows.writable(g, i);
         if g == CR && i <= 7 && self.tables[CR][0x11] & 0x80 != 0 {
             mask &= if i == 7 { 0x10 } else { 0 };
         }

@@ -1,5 +1,7 @@
-//! Scripts, written from documents 01 and 02 (P1): a file checked, a list of steps written as a file, a file translated into commands.
+//! Scripts, written from documents 01 and 02 (P1, P2): a file checked, a list of steps written as a file, a file translated into commands.
 //! Each answers a number and a value. The commands of group 8 are those of docs/DECISIONS.md, part 6.
+
+use crate::model::Rows;
 
 /// Whether a step may name the register.
 fn is_name(group: u8, index: u8) -> bool {
@@ -20,6 +22,22 @@ fn is_step(s: &[u8]) -> bool {
     }
 }
 
+/// Of one step 7 comes before 11, a SET or a FIELD whose register has no writable bit in its row, whatever the state; 0 is accepted.
+fn judged(rows: &Rows, s: &[u8]) -> u8 {
+    if !is_step(s) {
+        7
+    } else if s[0] != 3 && rows.writable(s[1] as usize, s[2]) == 0 {
+        11
+    } else {
+        0
+    }
+}
+
+/// The first bad step's number and place.
+fn first_bad<'a>(rows: &Rows, steps: impl Iterator<Item = &'a [u8]>) -> Option<(u8, usize)> {
+    steps.enumerate().map(|(j, s)| (judged(rows, s), j)).find(|&(number, _)| number != 0)
+}
+
 fn sum(block: &[u8]) -> u16 {
     block.chunks(2).fold(0u16, |n, w| n.wrapping_add(u16::from_le_bytes([w[0], w[1]])))
 }
@@ -36,7 +54,7 @@ fn is_block(b: &[u8], number: usize, last: bool) -> bool {
 }
 
 /// The steps of a file, or the refusal.
-pub fn steps(file: &[u8]) -> Result<Vec<&[u8]>, (u8, usize)> {
+pub fn steps<'a>(rows: &Rows, file: &'a [u8]) -> Result<Vec<&'a [u8]>, (u8, usize)> {
     let blocks = file.len() / 512;
     if file.len() % 512 != 0 || !(1..=12).contains(&blocks) {
         return Err((8, 0));
@@ -47,14 +65,14 @@ pub fn steps(file: &[u8]) -> Result<Vec<&[u8]>, (u8, usize)> {
         }
     }
     let list: Vec<&[u8]> = file.chunks(512).flat_map(|b| b[6..6 + 6 * b[2] as usize].chunks(6)).collect();
-    match list.iter().position(|s| !is_step(s)) {
-        Some(j) => Err((7, j)),
+    match first_bad(rows, list.iter().copied()) {
+        Some(bad) => Err(bad),
         None => Ok(list),
     }
 }
 
-pub fn check(file: &[u8]) -> (u8, usize) {
-    steps(file).map_or_else(|e| e, |list| (0, list.len()))
+pub fn check(rows: &Rows, file: &[u8]) -> (u8, usize) {
+    steps(rows, file).map_or_else(|e| e, |list| (0, list.len()))
 }
 
 /// Puts the right check into a block.
@@ -71,15 +89,20 @@ fn block(number: usize, steps: &[u8], last: bool) -> Vec<u8> {
     b
 }
 
-pub fn write(list: &[u8], out: &mut [u8]) -> (u8, usize) {
+/// The blocks of a list of whole steps, whatever the steps are.
+pub fn file(list: &[u8]) -> Vec<u8> {
+    list.chunks(504).enumerate().flat_map(|(k, s)| block(k, s, (k + 1) * 504 >= list.len())).collect()
+}
+
+pub fn write(rows: &Rows, list: &[u8], out: &mut [u8]) -> (u8, usize) {
     let count = list.len() / 6;
     if list.len() % 6 != 0 || !(1..=1008).contains(&count) {
         return (8, 0);
     }
-    if let Some(j) = list.chunks(6).position(|s| !is_step(s)) {
-        return (7, j);
+    if let Some(bad) = first_bad(rows, list.chunks(6)) {
+        return bad;
     }
-    let file: Vec<u8> = list.chunks(504).enumerate().flat_map(|(k, s)| block(k, s, (k + 1) * 504 >= list.len())).collect();
+    let file = file(list);
     if out.len() < file.len() {
         return (9, 0);
     }
@@ -128,8 +151,8 @@ fn expanded(s: &[u8]) -> Vec<[u8; 4]> {
     }
 }
 
-pub fn translate(file: &[u8], room: &mut [u8]) -> (u8, usize) {
-    let list = match steps(file) {
+pub fn translate(rows: &Rows, file: &[u8], room: &mut [u8]) -> (u8, usize) {
+    let list = match steps(rows, file) {
         Ok(list) => list,
         Err(e) => return e,
     };
