@@ -355,13 +355,13 @@ fn judged(rows: &Rows, r: &mut Random) -> usize {
         let file = script::file(&list);
         let due = |value: usize| if *number == 0 { (0, value) } else { (*number, *place) };
         let input = format!("case {k}, {} steps, number {number} due", steps.len());
-        expect(&format!("{input}: the model"), script::check(rows, &file), due(steps.len()));
+        assert_eq!(script::check(rows, &file), due(steps.len()), "{input}: checked by the model");
         expect(&format!("{input}: checked"), library::check_script(&file), due(steps.len()));
         for room in [file.len() + 7, 0] {
             let mut out: Vec<u8> = (0..room).map(|_| r.byte()).collect();
             let mut kept = out.clone();
             let want = if *number == 0 && room == 0 { (9, 0) } else { due(file.len() / 512) };
-            expect(&format!("{input}: written by the model"), script::write(rows, &list, &mut kept), want);
+            assert_eq!(script::write(rows, &list, &mut kept), want, "{input}: written by the model");
             expect(&format!("{input}: written"), library::write_script(&list, &mut out), want);
             expect_bytes(&format!("{input}: written"), &out, &kept);
         }
