@@ -1,8 +1,7 @@
 // Script files: blocks and their check, the steps of a file, the checked file, and the reader as a position
 // beside the caller's bytes (document 01, Scripts; numbers 8 and 6, and then 7 or, by document 02, P2, 11 for
-// the first step that does not pass). The definitions are in
-// specs/: Block, File, Reader, Numbers. The reader as a struct over the bytes is the crate reader, and
-// making a file is the crate writer.
+// the first step that does not pass). The definitions are in specs/: Block, File, Reader, Numbers. The reader as
+// a struct over the bytes is the crate reader, and making a file is the crate writer.
 ghost use mathlib.Core.Path.{_≡_};
 ghost use Prim.Native.Nat.{_+_, _*_, _%_, _/_, _≤_};
 ghost use lib.ListN.{length};

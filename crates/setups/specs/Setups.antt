@@ -183,6 +183,10 @@ setups =
     ∷ answers (Set 3 0x70 0x43 ∷ Set 8 0x15 0x00 ∷ []) 11 0
     -- P2.3. FIELD XR60, mask 00h; FIELD XR67, whose writable bits are 02h, mask 01h, value 01h; SET CR00 FFh, SET AR00 3Fh, a COLOUR: one block.
     ∷ answers (Field 3 0x60 0x00 0x00 ∷ Field 3 0x67 0x01 0x01 ∷ Set 0 0x00 0xFF ∷ Set 8 0x00 0x3F ∷ Colour 0x00 0x3F 0x00 0x15 ∷ []) 0 1
+    -- P2.4. Ports keep ignoring such writes: 3D6h gets 70h, 3D7h gets FFh and reads 03h; 3C4h gets 05h, 3C5h gets FFh and reads 00h.
+    ∷ chip 0x02 0x00
+    (gets 0x3D6 0x70 ∷ gets 0x3D7 0xFF ∷ reads 0x3D7 0x03
+    ∷ gets 0x3C4 0x05 ∷ gets 0x3C5 0xFF ∷ reads 0x3C5 0x00 ∷ [])
     ∷ []
 
 abbrev pub allHold : List Row → Bool

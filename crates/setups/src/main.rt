@@ -395,6 +395,18 @@ fn case_p2_3() -> [u8; 16] {
     out
 }
 
+// P2.4. FFh written to XR70 and to SR05 through the ports: the numbers, and what is read.
+fn case_p2_4() -> [u8; 16] {
+    let a = after(Chip::new(0x02, 0x00), 0x3D6, 0x70);
+    let b = after(a, 0x3C4, 0x05);
+    let mut out = [0u8; 16];
+    out[0] = refusal(a, 0x3D7, 0xFF);
+    out[1] = seen(after(a, 0x3D7, 0xFF), 0x3D7);
+    out[2] = refusal(b, 0x3C5, 0xFF);
+    out[3] = seen(after(b, 0x3C5, 0xFF), 0x3C5);
+    out
+}
+
 fn main() {
     report(
         1,
@@ -559,5 +571,11 @@ fn main() {
         3,
         case_p2_3(),
         [0, 1, 0, 0, 0, 0, 0, 0, 0, 0, 0, 0, 0, 0, 0, 0],
+    );
+    report_request(
+        2,
+        4,
+        case_p2_4(),
+        [0, 0x03, 0, 0x00, 0, 0, 0, 0, 0, 0, 0, 0, 0, 0, 0, 0],
     );
 }

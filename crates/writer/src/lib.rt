@@ -1,7 +1,8 @@
 // The writer: a list of steps, six bytes each, 1 to 1,008 of them, into the blocks of a script file in a lent
-// output (document 01, Scripts; document 02, P2; numbers 8, 7 or 11, and 9 in that order). A refusal changes no byte of the output,
-// and the bytes after the file keep their value. The definition is specs/Write; that reading back what was
-// written gives the same steps, and writing the steps of an accepted file the same bytes, is proofs/RoundTrip.
+// output (document 01, Scripts; document 02, P2; numbers 8, 7 or 11, and 9 in that order). A refusal changes no
+// byte of the output, and the bytes after the file keep their value. The definition is specs/Write; that reading
+// back what was written gives the same steps, and writing the steps of an accepted file the same bytes, is
+// proofs/RoundTrip.
 ghost use mathlib.Core.Path.{_≡_};
 ghost use Prim.Native.Nat.{_+_, _*_, _<_, _≤_};
 ghost use lib.ListN.{length};

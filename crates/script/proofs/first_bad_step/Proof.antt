@@ -18,7 +18,7 @@ Inv-loop f layout m j₀ j = firstBadStep layout f m ≡ firstNot (λ i. isGood 
 abbrev μ-loop : tie.MeasureT-loop
 μ-loop f layout m j₀ j = m - j
 
--- a step that is none of the allowed
+-- a step that does not pass
 returns : tie.Need-returns Inv-loop μ-loop
 returns c =
     let l = c .before .before .before .before in
@@ -33,7 +33,7 @@ loop-again c =
     l .loop .inv ∙ first-more (λ i. isGood (stepAt (a .layout) (now (a .list)) i)) (l .loop .j) (a .count) (search needs)
     (ap isGood (sym (c .before .before .step-at .ensures) ∙ c .enum-told .given .1))
 
--- all of them are legal
+-- all of them pass
 returns-2 : tie.Need-returns-2 Inv-loop μ-loop
 returns-2 c =
     let l = c .before in
