@@ -5,38 +5,28 @@ use Prim.Native.Nat.{ℕ, _<_}
 use native.Mathlib.Omega.{arith}
 use mathlib.Core.Bool.{Bool, true, false, cond}
 use mathlib.Core.Path.{_≡_, refl, sym, ap, _∙_}
-use lib.Bits.{bitAnd, and-mask, and-zero-l, and-zero-r, or-zero-r}
-use lib.Dec.{eqb}
 use borrow.Author.Tests.{eqb-true, eqb-false}
 use Rattle.lists.specs.Bits.{bit, isSet}
-use Rattle.lists.specs.Scan.{every}
-use Rattle.lists.proofs.Scan.{every-at}
 use Rattle.registers.specs.Groups.{groupAt, writableOf}
-use Rattle.registers.specs.WriteRule.{leftOpen, underLock, writableNow, written}
+use Rattle.registers.specs.WriteRule.{writableNow, written}
 use Rattle.registers.specs.declared.Group.{Group}
 use Rattle.registers.proofs.TableLaws.{byte-rows}
-use Rattle.registers.proofs.WriteLaws.{same-bits}
+use Rattle.registers.proofs.WriteLaws.{bit-complement, written-none, same-bits, locked-fewer, byte-now}
 use Rattle.chip.specs.State.{Named}
 use Rattle.chip.specs.Names.{register, locked, writableAt, received}
+use Rattle.chip.proofs.AccessLaws.{zero-bit}
 use Rattle.chip.proofs.NameLaws.{Has, Bytes, replaced-all, replaced-bit, received-bit, received-keeps-colours}
 use Rattle.steps.specs.Step.{idle}
 use Rattle.steps.specs.declared.Step.{Step}
 use Rattle.steps.specs.declared.Step.the-variants.{Set, Field, Colour}
 use Rattle.play.specs.ByName.{applied}
 
--- ---- a register without a writable bit
-written-none : (old new : ℕ) → old < 0x100 → written old new 0 ≡ old
-unfolding written
-written-none old new h = rw (and-zero-r new, or-zero-r (bitAnd old 0xFF), and-mask old 8) (omega arith)
-
 module _ (g : Group) (n : Named) (i : ℕ) where
+  -- ---- a register without a writable bit: it has none now, and keeps its byte
   none-now : writableOf g i ≡ 0 → writableAt g n i ≡ 0
-  unfolding writableNow
-  none-now e = go (locked g n)
-    where
-      go : (b : Bool) → underLock g b i (writableOf g i) ≡ 0
-      go true = rw e (and-zero-l (leftOpen g i))
-      go false = e
+  none-now e =
+      same-bits (writableAt g n i) 0 (byte-now g (locked g n) i) (omega arith)
+      (λ k hk. locked-fewer k g (locked g n) i (rw e (zero-bit k)) ∙ sym (zero-bit k))
 
   kept : (v : ℕ) → Bytes n → writableOf g i ≡ 0 → (h : Group) (j : ℕ) → register h (received g n i v) j ≡ register h n j
   unfolding received
@@ -49,16 +39,9 @@ module _ (g : Group) (n : Named) (i : ℕ) where
   -- ---- a register with one, and its lock off
   changed : (writableOf g i ≡ 0 → ⊥) → locked g n ≡ false → Has g n i
       → register g (received g n i 0xFF) i ≡ register g (received g n i 0x00) i → ⊥
-  unfolding writableNow every
-  changed some free has same =
-      some (same-bits (writableOf g i) 0 (byte-rows g i .0) (omega arith) (λ k hk. clear k hk ∙ sym (zeros k hk)))
+  unfolding writableNow
+  changed some free has same = some (same-bits (writableOf g i) 0 (byte-rows g i .0) (omega arith) (λ k hk. clear k hk ∙ sym (zero-bit k)))
     where
-      ones : (k : ℕ) → k < 8 → bit k 0xFF ≡ 1
-      ones k hk = eqb-true _ _ (every-at (λ j. eqb (bit j 0xFF) 1) 0 8 refl k (omega arith) (omega arith))
-
-      zeros : (k : ℕ) → k < 8 → bit k 0x00 ≡ 0
-      zeros k hk = eqb-true _ _ (every-at (λ j. eqb (bit j 0x00) 0) 0 8 refl k (omega arith) (omega arith))
-
       now : writableAt g n i ≡ writableOf g i
       now = rw free
 
@@ -68,7 +51,7 @@ module _ (g : Group) (n : Named) (i : ℕ) where
         where
           go : (b : Bool) → isSet k (writableAt g n i) ≡ b → cond b (bit k 0xFF) (bit k (register g n i)) ≡ cond b (bit k 0x00) (bit k (register g n i))
               → bit k (writableOf g i) ≡ 0
-          go true e q = absurd (omega (arith, ones k hk, zeros k hk))
+          go true e q = absurd (omega (arith, bit-complement k 0 hk (omega arith), zero-bit k))
           go false e q =
               let m : bit k (writableOf g i) ≡ 1 → ⊥ = λ t. eqb-false _ _ e (ap (bit k) now ∙ t) in
               let d : bit k (writableOf g i) < 2 = omega arith in

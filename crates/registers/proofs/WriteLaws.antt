@@ -46,6 +46,11 @@ bit-written k old new mask hk hm =
     ∙ ap₂ bitOr (bit-and k old (0xFF - mask) ∙ ap (bitAnd (bit k old)) (bit-complement k mask hk hm)) (bit-and k new mask)
     ∙ one-digit (bit k old) (bit k new) (bit k mask) (omega arith) (omega arith) (omega arith)
 
+-- a mask without a bit writes nothing
+pub written-none : (old new : ℕ) → old < 0x100 → written old new 0x00 ≡ old
+unfolding written
+written-none old new h = rw (and-zero-r new, or-zero-r (bitAnd old 0xFF), and-mask old 8) (omega arith)
+
 -- bytes stay bytes
 pub written-byte : (old new mask : ℕ) → old < 0x100 → new < 0x100 → written old new mask < 0x100
 unfolding written

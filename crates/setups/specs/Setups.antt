@@ -177,7 +177,8 @@ setups =
     -- P2.1. SET XR60 43h, SET XR70 43h: 11, step 1. SET SR05 00h, which is unlisted: 11, step 0.
     ∷ answers (Set 3 0x60 0x43 ∷ Set 3 0x70 0x43 ∷ []) 11 1
     ∷ answers (Set 1 0x05 0x00 ∷ []) 11 0
-    -- P2.2. AR15 cannot be named and has no writable bit: 7. So has FIELD XR70, mask 01h, value 03h. The first bad step reports its own number.
+    -- P2.2. SET AR15 00h, which no step may name and which has no writable bit: 7. FIELD XR70, mask 01h, value 03h, which has a bit outside the mask: 7. The
+    -- first bad step reports its own number: SET XR70 43h before SET AR15 00h is 11, and behind it 7, each step 0.
     ∷ answers (Set 8 0x15 0x00 ∷ Set 3 0x70 0x43 ∷ []) 7 0
     ∷ answers (Field 3 0x70 0x03 0x01 ∷ []) 7 0
     ∷ answers (Set 3 0x70 0x43 ∷ Set 8 0x15 0x00 ∷ []) 11 0

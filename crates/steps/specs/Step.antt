@@ -26,14 +26,15 @@ names group index = ltb group 6 || (ltb group 8 && eqb index 0) || (eqb group 8 
 abbrev pub within : ℕ → ℕ → Bool
 within value mask = eqb (bitAnd value mask) value
 
--- a legal step
+-- a step that is one of the allowed
 unfoldable pub legal : Step → Bool
 legal (Set group index value) = names group index
 legal (Field group index value mask) = names group index && within value mask
 legal (Colour entry red green blue) = true
 
 -- document 02, P2: "whose register has no writable bit, unlisted ones included". The writable bits of the
--- register's row alone decide: not CR11's protection nor the picture, which are state, and not a FIELD's mask
+-- register's row alone decide (chapters 8 to 16, as the crate registers has them): not CR11's protection nor bit
+-- 5 of the attribute index, which are state, and not a FIELD's mask
 abbrev pub unwritable : ℕ → ℕ → Bool
 unwritable group index = eqb (writableOf (groupAt group) index) 0
 
