@@ -197,8 +197,19 @@ static void row(const struct transfer t[2], bool apart, bool move) {
     fflush(stdout);
 }
 
-int main(void) {
-    static const uint8_t codes[] = {0xCC, 0x66, 0xF0, 0x5A, 0xB8};
+int main(int argc, char **argv) {
+    uint8_t codes[256] = {0xCC, 0x66, 0xF0, 0x5A, 0xB8};
+    size_t many = 5;
+    for (int i = 1; i < argc; i++) {
+        char *end;
+        unsigned long code = strtoul(argv[i], &end, 16);
+        if (argc > 257 || *argv[i] == 0 || *end != 0 || code > 0xFF) {
+            fprintf(stderr, "%s: raster codes, 00 to FF, 256 of them at most\n", argv[i]);
+            return 2;
+        }
+        codes[i - 1] = (uint8_t)code;
+        many = (size_t)i;
+    }
     // The last three overlap. Scrolled: the source is a line, or a byte, after the destination, and backward before it, so that a
     // copy is a move. Smeared: it is 64 bytes before the destination, and backward after it, so that each line reads what it
     // has written.
@@ -223,7 +234,7 @@ int main(void) {
            "/forw.");
     for (size_t k = 0; k < sizeof kinds / sizeof kinds[0]; k++) {
         printf("%s\n", kinds[k].name);
-        for (size_t i = 0; i < sizeof codes; i++) {
+        for (size_t i = 0; i < many; i++) {
             struct transfer t = {kinds[k].dst, kinds[k].dstspan, kinds[k].src, kinds[k].srcspan, kinds[k].width,
                                  kinds[k].height, codes[i], false, false, 0, 3};
             struct transfer both[2] = {t, t};

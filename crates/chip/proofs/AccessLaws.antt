@@ -1,14 +1,14 @@
 -- What port accesses can and cannot do, for every state, port and byte: closed and open ports, data ports as access by name,
 -- what a read and a write leave alone, CR11's protection and the picture's. The numbers are in NumberLaws, the index ports in
 -- IndexLaws, the attribute port in AttributeLaws.
-use Prim.Native.Nat.{ℕ, _^_, _<_}
-use native.Mathlib.Nat.{zero-div}
+use Prim.Native.Nat.{ℕ, _<_}
 use borrow.Author.Tests.{eqb-true, ne-eqb}
 use lib.Dec.{eqb}
 use native.Mathlib.Omega.{arith}
 use mathlib.Core.Bool.{Bool, true, false, cond, _||_}
 use mathlib.Core.Path.{_≡_, refl, ap, _∙_}
 use Rattle.lists.specs.Bits.{bit}
+use Rattle.lists.proofs.Bits.{zero-bit}
 use Rattle.lists.specs.Scan.{every}
 use Rattle.lists.proofs.Scan.{every-at}
 use Rattle.registers.proofs.WriteLaws.{CR00-to-CR06-locked, CR07-bit-4-open, AR00-to-AR0F-locked}
@@ -133,9 +133,6 @@ write-keeps-bit c p v k h j hk shut =
     (λ g. received-keeps-bit k g h (named c) (indexOf g (c .indexes)) v j hk shut)
     (λ e r g b. ap (bit k) (coloured-keeps-register h (named c) e r g b j))
     (λ b. ap (bit k) (picture-keeps-register h (named c) b j)) p
-
-pub zero-bit : (k : ℕ) → bit k 0x00 ≡ 0
-zero-bit k = rw (zero-div (2 ^ k))
 
 only-bit-4 : (k : ℕ) → k < 8 → (k ≡ 4 → ⊥) → bit k 0x10 ≡ 0
 unfolding every

@@ -8,10 +8,11 @@ use mathlib.Core.Path.{_≡_, refl, sym, ap, _∙_}
 use lib.Dec.{eqb}
 use lib.Bits.{bitAnd, or-zero-r, and-mask}
 use Rattle.lists.specs.Bits.{bit, isSet}
+use Rattle.lists.proofs.Bits.{zero-bit, bit-and, bit-or}
 use Rattle.registers.specs.Extension.{XR}
 use Rattle.registers.specs.Groups.{rowOf, writableOf}
 use Rattle.registers.specs.WriteRule.{lockedBy}
-use Rattle.registers.proofs.WriteLaws.{locked-fewer, bit-and, bit-or, same-bits, CR00-to-CR06-locked, AR00-to-AR0F-locked}
+use Rattle.registers.proofs.WriteLaws.{locked-fewer, same-bits, CR00-to-CR06-locked, AR00-to-AR0F-locked}
 use Rattle.registers.specs.declared.Row.the-variants.{Unlisted}
 use Rattle.registers.specs.declared.Group.{Group}
 use Rattle.registers.specs.declared.Group.the-variants.{Cr, Xr, Ar}
@@ -21,7 +22,7 @@ use Rattle.chip.specs.Access.{portWritten}
 use Rattle.chip.specs.Reset.{resetByte}
 use Rattle.chip.specs.Reach.{Reach, fresh, wrote, saw}
 use Rattle.chip.specs.declared.Chip.{Chip}
-use Rattle.chip.proofs.AccessLaws.{zero-bit, write-keeps-bit, write-bytes, read-keeps-all}
+use Rattle.chip.proofs.AccessLaws.{write-keeps-bit, write-bytes, read-keeps-all}
 use Rattle.chip.proofs.NameLaws.{Bytes}
 use Rattle.chip.proofs.ResetLaws.{register-reset, reset-bytes, reset-unlisted, XR-pins-reset}
 

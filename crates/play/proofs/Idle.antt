@@ -7,14 +7,14 @@ use mathlib.Core.Bool.{Bool, true, false, cond}
 use mathlib.Core.Path.{_≡_, refl, sym, ap, _∙_}
 use borrow.Author.Tests.{eqb-true, eqb-false}
 use Rattle.lists.specs.Bits.{bit, isSet}
+use Rattle.lists.proofs.Bits.{zero-bit, bit-complement}
 use Rattle.registers.specs.Groups.{groupAt, writableOf}
 use Rattle.registers.specs.WriteRule.{writableNow, written}
 use Rattle.registers.specs.declared.Group.{Group}
 use Rattle.registers.proofs.TableLaws.{byte-rows}
-use Rattle.registers.proofs.WriteLaws.{bit-complement, written-none, same-bits, locked-fewer, byte-now}
+use Rattle.registers.proofs.WriteLaws.{written-none, same-bits, locked-fewer, byte-now}
 use Rattle.chip.specs.State.{Named}
 use Rattle.chip.specs.Names.{register, locked, writableAt, received}
-use Rattle.chip.proofs.AccessLaws.{zero-bit}
 use Rattle.chip.proofs.NameLaws.{Has, Bytes, replaced-all, replaced-bit, received-bit, received-keeps-colours}
 use Rattle.steps.specs.Step.{idle}
 use Rattle.steps.specs.declared.Step.{Step}

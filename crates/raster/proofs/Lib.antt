@@ -1,2 +1,2 @@
 -- What the proofs of the raster byte share.
-pub mod Choices
+pub mod Terms

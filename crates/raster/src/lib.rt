@@ -7,48 +7,39 @@ ghost use mathlib.Core.Path.{_≡_};
 ghost use Prim.Native.Nat.{_+_, _*_, _≤_, _<_};
 ghost use Rattle.lists.specs.Bits.{bit};
 ghost use Rattle.raster.specs.Raster.{number, raster, usesSource, usesPattern};
-ghost use Rattle.raster.specs.Choice.{either};
 
 // A byte with all its bits as bit k of the code.
-fn mask(code: u8, k: u8) -> u8
+fn chosen(code: u8, k: u8) -> u8
     requires { ⌜ k < 8 ⌝ }
     ensures { λ r. ⌜ r ≡ number 8 (λ i. bit k code) ⌝ }
 {
     if (code >> k) % 2 == 1 { 255 } else { 0 }
 }
 
-// For each bit, b's where x has a set bit, else a's.
-fn choose(x: u8, a: u8, b: u8) -> u8
-    ensures { λ r. ⌜ r ≡ number 8 (λ i. either (bit i x) (bit i a) (bit i b)) ⌝ }
+// The same byte without a choice: the bit goes to the top and is copied beside itself, then the two are, then the four.
+fn spread(code: u8, k: u8) -> u8
+    requires { ⌜ k < 8 ⌝ }
+    ensures { λ r. ⌜ r ≡ number 8 (λ i. bit k code) ⌝ }
 {
-    a ^ (x & (a ^ b))
+    let one = (code >> k) % 2 * 128;
+    let two = one | one >> 1;
+    let four = two | two >> 2;
+    four | four >> 4
 }
 
-// By D between two bits of the code, k and k + 1.
-fn by_destination(code: u8, k: u8, d: u8) -> u8
-    requires { ⌜ k ≤ 6 ⌝ }
-    ensures { λ r. ⌜ r ≡ number 8 (λ i. bit (k + 1 * bit i d) code) ⌝ }
-{
-    choose(d, mask(code, k), mask(code, k + 1))
-}
-
-// By S and D among four bits of the code, from k on.
-fn by_source(code: u8, k: u8, s: u8, d: u8) -> u8
-    requires { ⌜ k ≤ 4 ⌝ }
-    ensures { λ r. ⌜ r ≡ number 8 (λ i. bit (k + 2 * bit i s + 1 * bit i d) code) ⌝ }
-{
-    choose(
-        s,
-        by_destination(code, k, d),
-        by_destination(code, k + 2, d),
-    )
-}
-
-// The raster byte: by P, S and D among the eight bits of the code.
+// The raster byte: eight terms, one for each bit of the code, in the order of appendix E. Beside the term of a bit stands the print's row for
+// the code that has this bit alone.
 pub fn raster_byte(code: u8, p: u8, s: u8, d: u8) -> u8
     ensures { λ r. ⌜ r ≡ raster code p s d ⌝ }
 {
-    choose(p, by_source(code, 0, s, d), by_source(code, 4, s, d))
+    (!p & (!s & (!d & chosen(code, 0)))) // 01: not(D or (P or S))
+        | (!p & (!s & (d & chosen(code, 1)))) // 02: D and (not(P or S))
+        | (!p & (s & (!d & chosen(code, 2)))) // 04: S and (not(D or P))
+        | (!p & (s & (d & spread(code, 3)))) // 08: S and (D and (notP))
+        | (p & (!s & (!d & chosen(code, 4)))) // 10: P and (not(D or S))
+        | (p & (!s & (d & spread(code, 5)))) // 20: D and (P and (notS))
+        | (p & (s & (!d & spread(code, 6)))) // 40: P and (S and (notD))
+        | (p & (s & (d & chosen(code, 7)))) // 80: D and (P and S)
 }
 
 // Whether the code depends on the source: bits 0, 1, 4 and 5 are not bits 2, 3, 6 and 7.

@@ -7,31 +7,16 @@ use mathlib.Core.Path.{_≡_, refl, ap, ap₂, sym, _∙_}
 use lib.Dec.{eqb}
 use lib.Pow.{shr-shr, shr-lt}
 use native.Mathlib.Numerals.{add-one}
-use lib.Bits.{bitAnd, bitOr, and-shr, and-mod, or-shr, or-mod, and-zero-r, or-zero-l, or-zero-r, and-zero-l, and-mask, or-lt, and-le-l}
-use borrow.Author.Tests.{eqb-true, lt-ltb}
+use lib.Bits.{bitAnd, bitOr, and-zero-r, or-zero-l, or-zero-r, and-zero-l, and-mask, or-lt, and-le-l}
+use borrow.Author.Tests.{lt-ltb}
 use Rattle.lists.specs.Bits.{bit, isSet}
 use Rattle.registers.specs.CrtController.{CR}
 use Rattle.registers.specs.Groups.{rowOf, writableOf}
 use Rattle.registers.specs.WriteRule.{leftOpen, writableNow, written}
 use Rattle.registers.specs.declared.Group.{Group}
 use Rattle.registers.specs.declared.Group.the-variants.{Cr, Ar}
-use Rattle.lists.specs.Scan.{every}
-use Rattle.lists.proofs.Scan.{every-at}
+use Rattle.lists.proofs.Bits.{bit-and, bit-or, bit-complement}
 use Rattle.registers.proofs.TableLaws.{byte-rows}
-
-pub bit-and : (k a b : ℕ) → bit k (bitAnd a b) ≡ bitAnd (bit k a) (bit k b)
-bit-and k a b = ap (λ (t : ℕ). t % 2) (and-shr a b k) ∙ and-mod (a / 2 ^ k) (b / 2 ^ k) 1
-
-pub bit-or : (k a b : ℕ) → bit k (bitOr a b) ≡ bitOr (bit k a) (bit k b)
-bit-or k a b = ap (λ (t : ℕ). t % 2) (or-shr a b k) ∙ or-mod (a / 2 ^ k) (b / 2 ^ k) 1
-
--- a bit of the complement is the other one
-pub bit-complement : (k m : ℕ) → k < 8 → m < 0x100 → bit k (0xFF - m) ≡ 1 - bit k m
-unfolding every
-bit-complement k m hk hm =
-    eqb-true _ _
-    (every-at (λ x. eqb (bit k (0xFF - x)) (1 - bit k x)) 0 256
-    (every-at (λ j. every (λ x. eqb (bit j (0xFF - x)) (1 - bit j x)) 0 256) 0 8 refl k (omega arith) (omega arith)) m (omega arith) (omega arith))
 
 one-digit : (o n m : ℕ) → o < 2 → n < 2 → m < 2 → bitOr (bitAnd o (1 - m)) (bitAnd n m) ≡ cond (eqb m 1) n o
 one-digit o n zero ho hn hm = rw (and-zero-r n, or-zero-r (bitAnd o 1), and-mask o 1) (omega arith)

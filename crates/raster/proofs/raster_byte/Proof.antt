@@ -1,22 +1,24 @@
--- `raster::raster_byte` meets its contract: the two choices by S and D, split by P at a step of 4. Assumes nothing.
-use mathlib.Core.Path.{_∙_, ap}
-use Prim.Native.Nat.{ℕ, _+_, _*_}
-use native.Mathlib.Omega.{arith}
+-- `raster::raster_byte` meets its contract: its text is the eight terms, with the code's bits as bytes. Assumes nothing.
 use borrow.Author.Needs.{needs}
-use Rattle.lists.specs.Bits.{bit}
-use Rattle.raster.specs.Raster.{raster}
-use Rattle.raster.specs.Laws.{bit-small, number-same}
-use Rattle.raster.proofs.Choices.{split}
+use Rattle.raster.specs.AppendixE.{value, inputs}
+use Rattle.raster.proofs.Terms.{named-raster}
 use Rattle.raster.proofs.raster_byte.Statement.{statement}
 use Rattle.raster.proofs.raster_byte.Tie as tie
 
 returns : tie.Need-returns
-unfolding raster
+unfolding value inputs
 returns c =
-    let a = c .before .before .before .args in
-    rw (c .before .before .by-source .ensures, c .before .by-source2 .ensures) at (c .choose .ensures)
-    ∙ split (λ i k. bit (k + 2 * bit i (a .s) + 1 * bit i (a .d)) (a .code)) (λ i k. bit-small (k + 2 * bit i (a .s) + 1 * bit i (a .d)) (a .code)) (a .p) 0 4 (λ i. bit-small i (a .p))
-    ∙ number-same 8 _ _ (λ i l. ap (λ (k : ℕ). bit k (a .code)) (omega arith))
+    let a = c .before .before .before .before .before .before .before .before .args in
+    named-raster (a .code) (a .p) (a .s) (a .d) (search needs) (search needs) (search needs) (search needs)
+    (c .before .before .before .before .before .before .before .chosen .ensures)
+    (c .before .before .before .before .before .before .chosen2 .ensures)
+    (c .before .before .before .before .before .chosen3 .ensures)
+    (c .before .before .before .before .spread .ensures)
+    (c .before .before .before .chosen4 .ensures)
+    (c .before .before .spread2 .ensures)
+    (c .before .spread3 .ensures)
+    (c .chosen5 .ensures)
 
 pub raster-byte-spec : {M : Type 1} → statement M
-raster-byte-spec = tie.close (tie.spec (λ c κs. search needs) (λ c κs. search needs) (λ c κs. search needs) returns)
+raster-byte-spec =
+    tie.close (tie.spec (λ c κs. search needs) (λ c κs. search needs) (λ c κs. search needs) (λ c κs. search needs) (λ c κs. search needs) (λ c κs. search needs) (λ c κs. search needs) (λ c κs. search needs) returns)

@@ -8,7 +8,7 @@ use borrow.Author.Needs.{needs}
 use Rattle.lists.specs.Scan.{every}
 use Rattle.lists.proofs.Scan.{every-at}
 use Rattle.raster.specs.Raster.{usesPattern}
-use Rattle.raster.proofs.Choices.{same}
+use Rattle.raster.proofs.Terms.{same}
 use Rattle.raster.proofs.uses_pattern.Statement.{statement}
 use Rattle.raster.proofs.uses_pattern.Tie as tie
 
