@@ -98,6 +98,33 @@ fn blend_plain(mem: &mut [u8], code: u8, d: usize, s: usize, w: usize)
     }
 }
 
+// The same. With the code known the compiler makes a loop of what is left of its terms, so each code that looks at no pattern has one.
+// CCh does not come here.
+fn blend_known(mem: &mut [u8], code: u8, d: usize, s: usize, w: usize)
+    requires { ⌜ (d + w ≤ length (now mem)) × (s + w ≤ length (now mem)) ⌝ }
+    requires { ⌜ (Apart d s w) ⊎ (s ≡ d) ⌝ }
+    ensures { λ r. ⌜ Part d (plainByte code d s (now (mem .entry))) 0 w (now (mem .entry)) (now (mem .exit)) ⌝ }
+{
+    match code {
+        0x00 => blend_plain(mem, 0x00, d, s, w),
+        0x11 => blend_plain(mem, 0x11, d, s, w),
+        0x22 => blend_plain(mem, 0x22, d, s, w),
+        0x33 => blend_plain(mem, 0x33, d, s, w),
+        0x44 => blend_plain(mem, 0x44, d, s, w),
+        0x55 => blend_plain(mem, 0x55, d, s, w),
+        0x66 => blend_plain(mem, 0x66, d, s, w),
+        0x77 => blend_plain(mem, 0x77, d, s, w),
+        0x88 => blend_plain(mem, 0x88, d, s, w),
+        0x99 => blend_plain(mem, 0x99, d, s, w),
+        0xAA => blend_plain(mem, 0xAA, d, s, w),
+        0xBB => blend_plain(mem, 0xBB, d, s, w),
+        0xDD => blend_plain(mem, 0xDD, d, s, w),
+        0xEE => blend_plain(mem, 0xEE, d, s, w),
+        0xFF => blend_plain(mem, 0xFF, d, s, w),
+        _ => blend_plain(mem, code, d, s, w),
+    }
+}
+
 // The raster bytes of a line in place, with its pattern in `pat` from f on.
 fn blend(mem: &mut [u8], pat: &[u8], code: u8, source: bool, d: usize, s: usize, f: usize, w: usize)
     requires { ⌜ (d + w ≤ length (now mem)) × (s + w ≤ length (now mem)) × (f + w ≤ length (now pat)) ⌝ }
@@ -109,6 +136,42 @@ fn blend(mem: &mut [u8], pat: &[u8], code: u8, source: bool, d: usize, s: usize,
         let sb = fetch(mem, source, s + c);
         mem[d + c] = raster::raster_byte(code, pat[f + c], sb, mem[d + c]);
         c += 1;
+    }
+}
+
+// The same, with a loop for each code that looks at the pattern and at no source.
+fn blend_filled(
+    mem: &mut [u8],
+    pat: &[u8],
+    code: u8,
+    source: bool,
+    d: usize,
+    s: usize,
+    f: usize,
+    w: usize,
+)
+    requires { ⌜ (d + w ≤ length (now mem)) × (s + w ≤ length (now mem)) × (f + w ≤ length (now pat)) ⌝ }
+    requires { ⌜ (source ≡ true → Apart d s w) ⌝ }
+    ensures { λ r. ⌜ Part d (blendedByte code source d s f (now (pat .entry)) (now (mem .entry))) 0 w (now (mem .entry)) (now (mem .exit)) ⌝ }
+{
+    if source {
+        blend(mem, pat, code, true, d, s, f, w);
+        return;
+    }
+    match code {
+        0x05 => blend(mem, pat, 0x05, false, d, s, f, w),
+        0x0A => blend(mem, pat, 0x0A, false, d, s, f, w),
+        0x0F => blend(mem, pat, 0x0F, false, d, s, f, w),
+        0x50 => blend(mem, pat, 0x50, false, d, s, f, w),
+        0x5A => blend(mem, pat, 0x5A, false, d, s, f, w),
+        0x5F => blend(mem, pat, 0x5F, false, d, s, f, w),
+        0xA0 => blend(mem, pat, 0xA0, false, d, s, f, w),
+        0xA5 => blend(mem, pat, 0xA5, false, d, s, f, w),
+        0xAF => blend(mem, pat, 0xAF, false, d, s, f, w),
+        0xF0 => blend(mem, pat, 0xF0, false, d, s, f, w),
+        0xF5 => blend(mem, pat, 0xF5, false, d, s, f, w),
+        0xFA => blend(mem, pat, 0xFA, false, d, s, f, w),
+        _ => blend(mem, pat, code, false, d, s, f, w),
     }
 }
 
@@ -310,10 +373,10 @@ fn line(
     }
     if pattern {
         tile(mem, pat, true, p, d % 8 + w);
-        blend(mem, pat, code, source, d, s, d % 8, w);
+        blend_filled(mem, pat, code, source, d, s, d % 8, w);
         return;
     }
-    blend_plain(mem, code, d, s, w);
+    blend_known(mem, code, d, s, w);
 }
 
 // The lowest address of a line's source or, for want of one, of its destination again.

@@ -36,7 +36,7 @@ pub fn raster_byte(code: u8, p: u8, s: u8, d: u8) -> u8
         | (!p & (!s & (d & chosen(code, 1)))) // 02: D and (not(P or S))
         | (!p & (s & (!d & chosen(code, 2)))) // 04: S and (not(D or P))
         | (!p & (s & (d & spread(code, 3)))) // 08: S and (D and (notP))
-        | (p & (!s & (!d & chosen(code, 4)))) // 10: P and (not(D or S))
+        | (p & (!s & (!d & spread(code, 4)))) // 10: P and (not(D or S))
         | (p & (!s & (d & spread(code, 5)))) // 20: D and (P and (notS))
         | (p & (s & (!d & spread(code, 6)))) // 40: P and (S and (notD))
         | (p & (s & (d & chosen(code, 7)))) // 80: D and (P and S)

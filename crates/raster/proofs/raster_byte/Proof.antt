@@ -14,10 +14,10 @@ returns c =
     (c .before .before .before .before .before .before .chosen2 .ensures)
     (c .before .before .before .before .before .chosen3 .ensures)
     (c .before .before .before .before .spread .ensures)
-    (c .before .before .before .chosen4 .ensures)
-    (c .before .before .spread2 .ensures)
-    (c .before .spread3 .ensures)
-    (c .chosen5 .ensures)
+    (c .before .before .before .spread2 .ensures)
+    (c .before .before .spread3 .ensures)
+    (c .before .spread4 .ensures)
+    (c .chosen4 .ensures)
 
 pub raster-byte-spec : {M : Type 1} → statement M
 raster-byte-spec =

@@ -56,8 +56,8 @@ tile-requires c κs =
     let still : a .pattern ≡ true → PatternStill (length (a .mem .now)) (a .d) (a .p) (a .w) = λ e. c .before .before .before .before .before .before .before .before .before .pattern-still .ensures (free (a .pattern) (c .before .before .before .before .before .before .before .before .before .pattern-still .result) (c .before .before .before .before .before .before .before .before .if1 .left) e) in
     (λ e. still (c .before .before .if6 .taken) .whole, (search needs, search needs))
 
-blend-requires : tie.Need-blend-requires
-blend-requires c κs = ((search needs, search needs, search needs), c .before .before .before .before .before .before .before .before .before .apart .ensures (not-false _ (c .before .before .before .before .before .before .before .before .if5 .left)))
+blend-filled-requires : tie.Need-blend-filled-requires
+blend-filled-requires c κs = ((search needs, search needs, search needs), c .before .before .before .before .before .before .before .before .before .apart .ensures (not-false _ (c .before .before .before .before .before .before .before .before .if5 .left)))
 
 -- in place, with a pattern
 returns-6 : tie.Need-returns-6
@@ -66,10 +66,10 @@ returns-6 c =
     let p = c .before .before .before .before .before .before .before .before .before .before .before .before .before .before .before .before .before .before .before .before .before .pre in
     let still : a .pattern ≡ true → PatternStill (length (a .mem .now)) (a .d) (a .p) (a .w) = λ e. c .before .before .before .before .before .before .before .before .before .before .before .before .before .before .before .before .before .pattern-still .ensures (free (a .pattern) (c .before .before .before .before .before .before .before .before .before .before .before .before .before .before .before .before .before .pattern-still .result) (c .before .before .before .before .before .before .before .before .before .before .before .before .before .before .before .before .if1 .left) e) in
     let first = c .before .before .before .before .before .before .before .before .before .before .before .before .before .before .before .source-still .ensures (not-false _ (c .before .before .before .before .before .before .before .before .before .before .before .before .before .before .if2 .left)) in
-    blended (a .code) (a .source) (a .pattern) (a .left) (a .d) (a .s) (a .p) (a .w) (a .mem .now) _ (p .0 .0) first still (p .1 .1 .1 .0) (c .before .before .before .before .before .before .before .before .before .before .if6 .taken) (c .before .before .before .before .before .before .before .tile .last .1 .0) (c .before .before .before .before .before .before .before .tile .ensures refl) (c .before .before .blend .ensures)
+    blended (a .code) (a .source) (a .pattern) (a .left) (a .d) (a .s) (a .p) (a .w) (a .mem .now) _ (p .0 .0) first still (p .1 .1 .1 .0) (c .before .before .before .before .before .before .before .before .before .before .if6 .taken) (c .before .before .before .before .before .before .before .tile .last .1 .0) (c .before .before .before .before .before .before .before .tile .ensures refl) (c .before .before .blend-filled .ensures)
 
-blend-plain-requires : tie.Need-blend-plain-requires
-blend-plain-requires c κs =
+blend-known-requires : tie.Need-blend-known-requires
+blend-known-requires c κs =
     ((search needs, search needs), ⊎-elim (λ e. inl (c .before .before .before .apart .ensures (not-false _ (c .before .before .if5 .left)) e)) (λ e. inr (c .before .before .before .before .before .before .before .before .before .before .before .before .pre .1 .1 .1 .2 e)) (both-ways (c .before .before .before .before .before .before .before .before .before .before .before .before .args .source)))
 
 -- in place, with none
@@ -79,7 +79,7 @@ returns-7 c =
     let p = c .before .before .before .before .before .before .before .before .before .before .before .before .before .before .before .pre in
     let still : a .pattern ≡ true → PatternStill (length (a .mem .now)) (a .d) (a .p) (a .w) = λ e. c .before .before .before .before .before .before .before .before .before .before .before .pattern-still .ensures (free (a .pattern) (c .before .before .before .before .before .before .before .before .before .before .before .pattern-still .result) (c .before .before .before .before .before .before .before .before .before .before .if1 .left) e) in
     let first = c .before .before .before .before .before .before .before .before .before .source-still .ensures (not-false _ (c .before .before .before .before .before .before .before .before .if2 .left)) in
-    blended-plain (a .code) (a .source) (a .pattern) (a .left) (a .d) (a .s) (a .p) (a .w) (a .mem .now) _ (p .0 .0) first still (p .1 .1 .1 .0) (c .before .before .before .before .if6 .left) (c .before .before .blend-plain .ensures)
+    blended-plain (a .code) (a .source) (a .pattern) (a .left) (a .d) (a .s) (a .p) (a .w) (a .mem .now) _ (p .0 .0) first still (p .1 .1 .1 .0) (c .before .before .before .before .if6 .left) (c .before .before .blend-known .ensures)
 
 pub line-spec : {M : Type 1} → statement M
 line-spec =
@@ -110,10 +110,10 @@ line-spec =
     returns-5
     (λ c. search needs)
     tile-requires
-    blend-requires
+    blend-filled-requires
     (λ c. search needs)
     (λ c. search needs)
     returns-6
-    blend-plain-requires
+    blend-known-requires
     (λ c. search needs)
     returns-7)
