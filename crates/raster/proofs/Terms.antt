@@ -5,16 +5,14 @@ use mathlib.Core.Bool.{Bool, true, false, Bool·beq}
 use mathlib.Core.List.{[], _∷_}
 use Prim.Native.Nat.{ℕ, _*_, _/_, _<_, zero-le}
 use lib.Bits.{bitOr}
-use lib.Dec.{eqb}
 use lib.ListN.{getD}
-use borrow.Author.Tests.{eqb-true}
 use Rattle.lists.specs.Bits.{bit}
 use Rattle.lists.specs.Scan.{every}
 use Rattle.lists.proofs.Scan.{every-at}
-use Rattle.raster.specs.Raster.{number, index, raster}
+use Rattle.raster.specs.Raster.{number, raster}
 use Rattle.raster.specs.AppendixE.{Operation, input, not, _and_, _or_, P, S, D, value, inputs}
 use Rattle.raster.specs.AppendixELaws.{value-raster}
-use Rattle.raster.specs.Laws.{two, bit-small, bit-number, number-small}
+use Rattle.raster.specs.Laws.{two, bit-small, bit-number, number-small, agree, agree-at, bitOf}
 
 -- the terms, with the code's bits as further inputs
 abbrev eight : Operation
@@ -28,15 +26,9 @@ eight =
     or (P and (S and (not D and input 9)))
     or (P and (S and (D and input 10)))
 
-tried : (code p s d : ℕ) → code < 256 → p < 2 → s < 2 → d < 2 → value 1 (inputs (λ k. bit k code) p s d) eight ≡ bit (index p s d) code
+tried : (code : ℕ) → code < 256 → agree (λ p s d. value 1 (inputs (λ k. bit k code) p s d) eight) (bitOf code) ≡ true
 unfolding every value inputs
-tried code p s d hc hp hs hd =
-    eqb-true _ _
-    (every-at (λ d. eqb (value 1 (inputs (λ k. bit k code) p s d) eight) (bit (index p s d) code)) 0 2
-    (every-at (λ s. every (λ d. eqb (value 1 (inputs (λ k. bit k code) p s d) eight) (bit (index p s d) code)) 0 2) 0 2
-    (every-at (λ p. every (λ s. every (λ d. eqb (value 1 (inputs (λ k. bit k code) p s d) eight) (bit (index p s d) code)) 0 2) 0 2) 0 2
-    (every-at (λ code. every (λ p. every (λ s. every (λ d. eqb (value 1 (inputs (λ k. bit k code) p s d) eight) (bit (index p s d) code)) 0 2) 0 2) 0 2) 0 256
-    refl code zero-le hc) p zero-le hp) s zero-le hs) d zero-le hd)
+tried code h = every-at (λ code. agree (λ p s d. value 1 (inputs (λ k. bit k code) p s d) eight) (bitOf code)) 0 256 refl code zero-le h
 
 eight-raster : (code p s d : ℕ) → code < 256 → p < 256 → s < 256 → d < 256
     → value 255 (inputs (λ k. number 8 (λ i. bit k code)) p s d) eight ≡ raster code p s d
@@ -44,7 +36,8 @@ unfolding value inputs
 eight-raster code p s d hc hp hs hd =
     value-raster eight (λ k. number 8 (λ i. bit k code)) code p s d (λ k. number-small 8 (λ i. bit k code) (λ i. bit-small k code)) hp hs hd (λ i l.
     let e : (k : ℕ) → bit i (number 8 (λ i. bit k code)) ≡ bit k code = λ k. bit-number 8 (λ i. bit k code) (λ i. bit-small k code) i l in
-    simp e (tried code (bit i p) (bit i s) (bit i d) hc (bit-small i p) (bit-small i s) (bit-small i d)))
+    simp e
+    (agree-at (λ p s d. value 1 (inputs (λ k. bit k code) p s d) eight) (bitOf code) (tried code hc) (bit i p) (bit i s) (bit i d) (bit-small i p) (bit-small i s) (bit-small i d)))
 
 -- the same with a name for each of the eight bytes
 pub named-raster : {a b c d e f g h : ℕ} (code p s x : ℕ) → code < 256 → p < 256 → s < 256 → x < 256

@@ -1,19 +1,19 @@
 -- The raster code is the databook's: what each row of AppendixE makes of P, S and D is the raster byte of its code. An operation on bytes
 -- is that operation on single bits, bit for bit, and there each row is tried. Assumes nothing.
+use mathlib.Core.Bool.{true}
 use mathlib.Core.Path.{_≡_, refl, sym, ap, ap₂, _∙_}
 use Prim.Native.Nat.{ℕ, zero, suc, _-_, _<_, zero-le}
 use native.Mathlib.Omega.{arith}
 use lib.Bits.{bitAnd, bitOr, bitXor, and-lt, or-lt, xor-lt}
-use lib.Dec.{lit<, eqb}
-use lib.ListN.{getD}
-use borrow.Author.Tests.{eqb-true}
+use lib.Dec.{lit<, ltb}
+use lib.ListN.{length, getD}
 use Rattle.lists.specs.Bits.{bit}
 use Rattle.lists.specs.Scan.{every}
 use Rattle.lists.proofs.Bits.{zero-bit, bit-and, bit-or, bit-xor, bit-complement}
 use Rattle.lists.proofs.Scan.{every-at}
 use Rattle.raster.specs.Raster.{index, raster}
 use Rattle.raster.specs.AppendixE.{Operation, input, zeros, ones, not, _and_, _or_, _xor_, value, inputs, printed}
-use Rattle.raster.specs.Laws.{bit-small, raster-is}
+use Rattle.raster.specs.Laws.{bit-small, raster-is, agree, agree-at, bitOf}
 
 -- an operation on bytes makes a byte, and each of its bits is that operation on the inputs' bits
 value-small : (at : ℕ → ℕ) → ((j : ℕ) → at j < 256) → (o : Operation) → value 255 at o < 256
@@ -66,18 +66,26 @@ value-raster o m code p s d hm hp hs hd e =
 abbrev row : ℕ → ℕ × Operation
 row j = getD printed j (0, zeros)
 
--- every row, tried at the eight bits that it has for P, S and D
-tried : (j p s d : ℕ) → j < 250 → p < 2 → s < 2 → d < 2 → value 1 (inputs (λ k. 0) p s d) (row j .1) ≡ bit (index p s d) (row j .0)
-unfolding every value inputs printed
-tried j p s d hj hp hs hd =
-    eqb-true _ _
-    (every-at (λ d. eqb (value 1 (inputs (λ k. 0) p s d) (row j .1)) (bit (index p s d) (row j .0))) 0 2
-    (every-at (λ s. every (λ d. eqb (value 1 (inputs (λ k. 0) p s d) (row j .1)) (bit (index p s d) (row j .0))) 0 2) 0 2
-    (every-at (λ p. every (λ s. every (λ d. eqb (value 1 (inputs (λ k. 0) p s d) (row j .1)) (bit (index p s d) (row j .0))) 0 2) 0 2) 0 2
-    (every-at (λ j. every (λ p. every (λ s. every (λ d. eqb (value 1 (inputs (λ k. 0) p s d) (row j .1)) (bit (index p s d) (row j .0))) 0 2) 0 2) 0 2) 0 250
-    refl j zero-le hj) p zero-le hp) s zero-le hs) d zero-le hd)
+-- what an operation makes of single bits
+abbrev onBits : Operation → ℕ → ℕ → ℕ → ℕ
+onBits o p s d = value 1 (inputs (λ k. 0) p s d) o
 
-pub appendix-E : (j p s d : ℕ) → j < 250 → p < 256 → s < 256 → d < 256 → value 255 (inputs (λ k. 0) p s d) (row j .1) ≡ raster (row j .0) p s d
+-- there are 250 rows, in the order of their codes
+pub printed-rows : length printed ≡ 250
+unfolding printed
+printed-rows = refl
+
+pub printed-order : every (λ j. ltb (row j .0) (row (suc j) .0)) 0 249 ≡ true
+unfolding every printed
+printed-order = refl
+
+tried : (j : ℕ) → j < 250 → agree (onBits (row j .1)) (bitOf (row j .0)) ≡ true
+unfolding every value inputs printed
+tried j h = every-at (λ j. agree (onBits (row j .1)) (bitOf (row j .0))) 0 250 refl j zero-le h
+
+-- each of them is the raster byte of its code
+pub appendix-E : (j p s d : ℕ) → j < length printed → p < 256 → s < 256 → d < 256 → value 255 (inputs (λ k. 0) p s d) (row j .1) ≡ raster (row j .0) p s d
 appendix-E j p s d hj hp hs hd =
     value-raster (row j .1) (λ k. 0) (row j .0) p s d (λ k. lit< tt) hp hs hd (λ i l.
-    rw (zero-bit i) (tried j (bit i p) (bit i s) (bit i d) hj (bit-small i p) (bit-small i s) (bit-small i d)))
+    rw (zero-bit i)
+    (agree-at (onBits (row j .1)) (bitOf (row j .0)) (tried j (rw printed-rows at hj)) (bit i p) (bit i s) (bit i d) (bit-small i p) (bit-small i s) (bit-small i d)))

@@ -76,31 +76,36 @@ unfolding raster
 raster-is code p s d x h e =
     number-same 8 (λ i. bit (index (bit i p) (bit i s) (bit i d)) code) (λ i. bit i x) e ∙ number-bits 8 x h
 
--- a rule of the code's eight bits, tried at each of them
-rule : (code : ℕ) (f : ℕ → ℕ → ℕ → ℕ)
-    → every (λ p. every (λ s. every (λ d. eqb (bit (index p s d) code) (f p s d)) 0 2) 0 2) 0 2 ≡ true
-    → (p s d : ℕ) → p < 2 → s < 2 → d < 2 → bit (index p s d) code ≡ f p s d
-rule code f e p s d hp hs hd =
+-- two functions of three bits agree, tried at each of the eight
+abbrev pub agree : (ℕ → ℕ → ℕ → ℕ) → (ℕ → ℕ → ℕ → ℕ) → Bool
+agree f g = every (λ p. every (λ s. every (λ d. eqb (f p s d) (g p s d)) 0 2) 0 2) 0 2
+
+pub agree-at : (f g : ℕ → ℕ → ℕ → ℕ) → agree f g ≡ true → (p s d : ℕ) → p < 2 → s < 2 → d < 2 → f p s d ≡ g p s d
+agree-at f g e p s d hp hs hd =
     eqb-true _ _
-    (every-at (λ d. eqb (bit (index p s d) code) (f p s d)) 0 2
-    (every-at (λ s. every (λ d. eqb (bit (index p s d) code) (f p s d)) 0 2) 0 2
-    (every-at (λ p. every (λ s. every (λ d. eqb (bit (index p s d) code) (f p s d)) 0 2) 0 2) 0 2 e p zero-le hp) s zero-le hs) d zero-le hd)
+    (every-at (λ d. eqb (f p s d) (g p s d)) 0 2
+    (every-at (λ s. every (λ d. eqb (f p s d) (g p s d)) 0 2) 0 2
+    (every-at (λ p. every (λ s. every (λ d. eqb (f p s d) (g p s d)) 0 2) 0 2) 0 2 e p zero-le hp) s zero-le hs) d zero-le hd)
+
+-- the code's bit at k = 4P + 2S + D
+abbrev pub bitOf : ℕ → ℕ → ℕ → ℕ → ℕ
+bitOf code p s d = bit (index p s d) code
 
 -- AAh gives the destination, CCh the source, F0h the pattern
 pub AAh-destination : (p s d : ℕ) → d < 256 → raster 0xAA p s d ≡ d
 unfolding every
 AAh-destination p s d h =
-    raster-is 0xAA p s d d h (λ i l. rule 0xAA (λ p s d. d) refl (bit i p) (bit i s) (bit i d) (bit-small i p) (bit-small i s) (bit-small i d))
+    raster-is 0xAA p s d d h (λ i l. agree-at (bitOf 0xAA) (λ p s d. d) refl (bit i p) (bit i s) (bit i d) (bit-small i p) (bit-small i s) (bit-small i d))
 
 pub CCh-source : (p s d : ℕ) → s < 256 → raster 0xCC p s d ≡ s
 unfolding every
 CCh-source p s d h =
-    raster-is 0xCC p s d s h (λ i l. rule 0xCC (λ p s d. s) refl (bit i p) (bit i s) (bit i d) (bit-small i p) (bit-small i s) (bit-small i d))
+    raster-is 0xCC p s d s h (λ i l. agree-at (bitOf 0xCC) (λ p s d. s) refl (bit i p) (bit i s) (bit i d) (bit-small i p) (bit-small i s) (bit-small i d))
 
 pub F0h-pattern : (p s d : ℕ) → p < 256 → raster 0xF0 p s d ≡ p
 unfolding every
 F0h-pattern p s d h =
-    raster-is 0xF0 p s d p h (λ i l. rule 0xF0 (λ p s d. p) refl (bit i p) (bit i s) (bit i d) (bit-small i p) (bit-small i s) (bit-small i d))
+    raster-is 0xF0 p s d p h (λ i l. agree-at (bitOf 0xF0) (λ p s d. p) refl (bit i p) (bit i s) (bit i d) (bit-small i p) (bit-small i s) (bit-small i d))
 
 -- an operand on which the code does not depend makes no difference: x is that operand's bit, y and z the others'
 unused : (code : ℕ) (k : ℕ → ℕ → ℕ → ℕ) → every (λ y. every (λ z. eqb (bit (k 0 y z) code) (bit (k 1 y z) code)) 0 2) 0 2 ≡ true

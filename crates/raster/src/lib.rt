@@ -1,10 +1,10 @@
 // The raster byte: what a raster code makes of a pattern, a source and a destination byte, worked out on whole bytes,
 // and which of the operands a code depends on. Document 01, "Video memory and block transfers"; databook, appendix E.
-// A byte is chosen bit by bit from two, by the bits of an operand: first by D, then by S, then by P.
+// The byte is the sum of eight terms, one for each bit of the code.
 // Callers rely on the three public contracts alone, which say nothing of how the byte is worked out.
 
 ghost use mathlib.Core.Path.{_≡_};
-ghost use Prim.Native.Nat.{_+_, _*_, _≤_, _<_};
+ghost use Prim.Native.Nat.{_<_};
 ghost use Rattle.lists.specs.Bits.{bit};
 ghost use Rattle.raster.specs.Raster.{number, raster, usesSource, usesPattern};
 
@@ -16,7 +16,8 @@ fn chosen(code: u8, k: u8) -> u8
     if (code >> k) % 2 == 1 { 255 } else { 0 }
 }
 
-// The same byte without a choice: the bit goes to the top and is copied beside itself, then the two are, then the four.
+// The same byte without a choice: the bit goes to the top and is copied beside itself, then the two are, then the four. Which of these two
+// functions a term has makes a difference to the compiled loops alone.
 fn spread(code: u8, k: u8) -> u8
     requires { ⌜ k < 8 ⌝ }
     ensures { λ r. ⌜ r ≡ number 8 (λ i. bit k code) ⌝ }
