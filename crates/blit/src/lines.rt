@@ -197,6 +197,41 @@ fn blend_taken(
     }
 }
 
+// The same, with a loop for each code that looks at the source and at no pattern.
+fn blend_copied(
+    mem: &mut [u8],
+    pat: &[u8],
+    src: &[u8],
+    code: u8,
+    pattern: bool,
+    d: usize,
+    f: usize,
+    w: usize,
+)
+    requires { ⌜ (d + w ≤ length (now mem)) × (w ≤ length (now src)) × (f + w ≤ length (now pat)) ⌝ }
+    ensures { λ r. ⌜ Part d (takenByte code pattern d f (now (pat .entry)) (now (src .entry)) (now (mem .entry))) 0 w (now (mem .entry)) (now (mem .exit)) ⌝ }
+{
+    if pattern {
+        blend_taken(mem, pat, src, code, true, d, f, w);
+        return;
+    }
+    match code {
+        0x11 => blend_taken(mem, pat, src, 0x11, false, d, f, w),
+        0x22 => blend_taken(mem, pat, src, 0x22, false, d, f, w),
+        0x33 => blend_taken(mem, pat, src, 0x33, false, d, f, w),
+        0x44 => blend_taken(mem, pat, src, 0x44, false, d, f, w),
+        0x66 => blend_taken(mem, pat, src, 0x66, false, d, f, w),
+        0x77 => blend_taken(mem, pat, src, 0x77, false, d, f, w),
+        0x88 => blend_taken(mem, pat, src, 0x88, false, d, f, w),
+        0x99 => blend_taken(mem, pat, src, 0x99, false, d, f, w),
+        0xBB => blend_taken(mem, pat, src, 0xBB, false, d, f, w),
+        0xCC => blend_taken(mem, pat, src, 0xCC, false, d, f, w),
+        0xDD => blend_taken(mem, pat, src, 0xDD, false, d, f, w),
+        0xEE => blend_taken(mem, pat, src, 0xEE, false, d, f, w),
+        _ => blend_taken(mem, pat, src, code, false, d, f, w),
+    }
+}
+
 // From k on each byte is the one k before it: what repeats after eight goes on to n.
 fn spread(buf: &mut [u8], k: usize, n: usize)
     requires { ⌜ (1 ≤ k) × (k % 8 ≡ 0) × (n ≤ length (now buf)) ⌝ }
@@ -290,7 +325,7 @@ fn piece(
 {
     tile(mem, pat, pattern, p, d % 8 + w);
     take(mem, src, s, w);
-    blend_taken(mem, pat, src, code, pattern, d, d % 8, w);
+    blend_copied(mem, pat, src, code, pattern, d, d % 8, w);
 }
 
 // Where n bytes begin that follow the first c of a line.

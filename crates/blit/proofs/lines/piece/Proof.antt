@@ -8,7 +8,7 @@ returns : tie.Need-returns
 returns c =
     let a = c .before .before .before .before .before .before .before .before .before .before .before .before .before .before .before .before .before .before .before .args in
     piece-part (a .code) (a .pattern) (a .d) (a .s) (a .p) (a .w) (a .mem .now) _ (c .before .before .before .before .before .before .before .before .before .before .before .before .before .tile .last .1 .0) _ (c .before .before .before .before .before .before .before .before .take .last .1 .0)
-    (c .before .before .before .before .before .before .before .before .before .before .before .before .before .tile .ensures) (c .before .before .before .before .before .before .before .before .take .ensures .0) (c .before .before .blend-taken .ensures)
+    (c .before .before .before .before .before .before .before .before .before .before .before .before .before .tile .ensures) (c .before .before .before .before .before .before .before .before .take .ensures .0) (c .before .before .blend-copied .ensures)
 
 pub piece-spec : {M : Type 1} → statement M
 piece-spec =
