@@ -3,8 +3,10 @@
 // of chapters 9 to 12 and 14 to 16 of the databook, MSR by chapter 8 and PALMASK by chapter 13; AR, the
 // attribute registers of chapter 12, is document 02's, P1.
 // The chip's state is not here: crate `chip` holds it.
+ghost use Prim.Native.Nat.{_-_, _^_};
 ghost use mathlib.Core.Path.{_≡_};
 ghost use Rattle.registers.specs.Groups.{groupAt, rowOf, writableOf, resetOf};
+ghost use Rattle.registers.specs.Indexes.{indexBits, indexKept, fits};
 ghost use Rattle.registers.specs.WriteRule.{lockedBy, leftOpen, underLock, writableNow, written};
 
 mod rows;
@@ -45,6 +47,38 @@ pub fn group_at(k: u8) -> Group
         7 => Group::Palmask,
         _ => Group::Ar,
     }
+}
+
+// The bits of a group's index, as a mask.
+fn index_mask(g: Group) -> u8
+    ensures { λ r. ⌜ r ≡ 2 ^ indexBits g - 1 ⌝ }
+{
+    match g {
+        Group::Cr => 0xFF,
+        Group::Sr => 0x07,
+        Group::Gr => 0x0F,
+        Group::Xr => 0xFF,
+        Group::Fr => 0xFF,
+        Group::Mr => 0xFF,
+        Group::Msr => 0x00,
+        Group::Palmask => 0x00,
+        Group::Ar => 0x1F,
+    }
+}
+
+// What is kept of a byte that is written as a group's index: a long index folds onto a short one. MSR and PALMASK
+// have no index, and keep 0.
+pub fn index_kept(g: Group, v: u8) -> u8
+    ensures { λ r. ⌜ r ≡ indexKept g v ⌝ }
+{
+    v & index_mask(g)
+}
+
+// Whether an index fits its group: the index register keeps all of it.
+pub fn fits(g: Group, i: u8) -> bool
+    ensures { λ r. ⌜ r ≡ fits g i ⌝ }
+{
+    i <= index_mask(g)
 }
 
 // The row of a register.
