@@ -7,6 +7,7 @@ use borrow.Author.Tests.{eqb-true, eqb-false}
 use mathlib.Core.Bool.{Bool, true, false, cond}
 use mathlib.Core.Path.{_≡_, refl, ap, _∙_}
 use Rattle.lists.specs.Bits.{bit, isSet}
+use Rattle.registers.specs.Indexes.{indexKept}
 use Rattle.registers.specs.declared.Group.the-variants.{Ar}
 use Rattle.ports.specs.Ports.{ports, target}
 use Rattle.chip.specs.State.{named, join, withPicture, withTurn, indexOf, withIndex}
@@ -58,8 +59,8 @@ module _ (c : Chip) (free : portsOpen (named c) ≡ true) where
   -- an index and then a byte, from the index's turn: a write by name, under the picture that the index brings
   pub attribute-by-port : (v b : ℕ) → c .indexes .turn ≡ false
       → portWritten (portWritten c 0x3C0 v .chip) 0x3C0 b
-      ≡ wrote Done (join (received Ar (withPicture (named c) (isSet 5 v)) (v % 32) b) (withTurn (withIndex Ar (c .indexes) (v % 32)) false) (c .loading))
-  unfolding portsOpen target ports
+      ≡ wrote Done (join (received Ar (withPicture (named c) (isSet 5 v)) (v % 32) b) (withTurn (withIndex Ar (c .indexes) v) false) (c .loading))
+  unfolding portsOpen target ports indexKept
   attribute-by-port v b turn =
       let five : v % 32 % 32 ≡ v % 32 = omega arith in
       ap (λ (w : Wrote). portWritten (w .chip) 0x3C0 b) (attribute-aimed v turn)
@@ -72,7 +73,7 @@ module _ (c : Chip) (free : portsOpen (named c) ≡ true) where
 
   -- the index reads back, bits 6 and 7 as 0
   pub attribute-reads-back : (v : ℕ) → c .indexes .turn ≡ false → portRead (portWritten c 0x3C0 v .chip) 0x3C0 .value ≡ v % 64
-  unfolding portsOpen target ports
+  unfolding portsOpen target ports indexKept
   attribute-reads-back v turn =
       ap (λ (w : Wrote). portRead (w .chip) 0x3C0 .value) (attribute-aimed v turn)
       ∙ ap (λ (s : Seen). s .value) (read-open (attributeAimed c v) 0x3C0 free)

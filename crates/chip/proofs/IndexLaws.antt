@@ -1,21 +1,19 @@
--- The six index registers with a port of their own. Document 01, "Ports": index ports can be read, and all six keep eight bits. An index reads back what was
--- written to it, and a write to one leaves the others: over the indexes first, then through the ports. And an index and then a
--- byte through the ports are a write by name.
-use Prim.Native.Nat.{ℕ, _<_}
+-- The six index registers with a port of their own. Document 01, "Ports": index ports can be read; document 02, P5: each keeps the bits
+-- that its chapter shows. An index reads back the bits of it that are kept, and a write to one leaves the others: over the indexes first,
+-- then through the ports. An index and then a byte through the ports are a write by name, and a long index is the short one onto which it folds.
+use Prim.Native.Nat.{ℕ}
 use native.Mathlib.Omega.{arith}
-use mathlib.Core.Bool.{Bool, true, false, cond, _&&_}
+use mathlib.Core.Bool.{Bool, true, false}
 use mathlib.Core.Path.{_≡_, refl, sym, ap, _∙_}
-use mathlib.Core.List.{List, [], _∷_}
-use lib.Dec.{eqb, ltb}
-use borrow.Author.Tests.{ne-eqb, ltb-true}
+use borrow.Author.Tests.{ne-eqb}
 use Rattle.registers.specs.Groups.{numberOf, is}
-use Rattle.lists.proofs.Tests.{and-both}
+use Rattle.registers.specs.Indexes.{indexKept}
+use Rattle.registers.proofs.IndexLaws.{kept-again}
 use Rattle.registers.specs.declared.Group.{Group}
 use Rattle.registers.specs.declared.Group.the-variants.{Cr, Sr, Gr, Xr, Fr, Mr, Msr, Palmask, Ar}
-use Rattle.ports.specs.Ports.{Port, ports, targetIn, target}
-use Rattle.ports.specs.declared.Target.{Target}
-use Rattle.ports.specs.declared.Target.the-variants.{Index, Data, ReadIndex, WriteIndex, Paldata, Attribute, Status, NotPicked, NotListed}
-use Rattle.chip.specs.State.{named, join, withIndexes, withTurn, indexOf, withIndex}
+use Rattle.ports.specs.Ports.{target}
+use Rattle.ports.specs.declared.Target.the-variants.{Index, Data}
+use Rattle.chip.specs.State.{named, join, withIndexes, withTurn, indexByte, indexOf, withIndex}
 use Rattle.chip.specs.Names.{received, portsOpen, colour}
 use Rattle.chip.specs.Access.{portWritten, portRead, wrote, seen}
 use Rattle.chip.specs.declared.Chip.{Chip}
@@ -24,17 +22,30 @@ use Rattle.chip.specs.declared.access.Answer.the-variants.{Done}
 use Rattle.chip.specs.declared.access.Seen.{Seen}
 use Rattle.chip.proofs.AccessLaws.{write-open, read-open, write-data}
 
--- an index that was written holds what was written: the six groups that have an index port are those numbered below 6
-pub index-same : (g : Group) (x : Indexes) (v : ℕ) → numberOf g < 6 → indexOf g (withIndex g x v) ≡ v
-index-same Cr x v h = refl
-index-same Sr x v h = refl
-index-same Gr x v h = refl
-index-same Xr x v h = refl
-index-same Fr x v h = refl
-index-same Mr x v h = refl
-index-same Msr x v h = absurd (omega arith)
-index-same Palmask x v h = absurd (omega arith)
-index-same Ar x v h = absurd (omega arith)
+-- an index that was written holds the bits of it that its group keeps..
+pub index-same : (g : Group) (x : Indexes) (v : ℕ) → indexOf g (withIndex g x v) ≡ indexKept g v
+unfolding indexKept
+index-same Cr x v = kept-again Cr v
+index-same Sr x v = kept-again Sr v
+index-same Gr x v = kept-again Gr v
+index-same Xr x v = kept-again Xr v
+index-same Fr x v = kept-again Fr v
+index-same Mr x v = kept-again Mr v
+index-same Msr x v = omega arith
+index-same Palmask x v = omega arith
+index-same Ar x v = kept-again Ar v
+
+-- ..and it is the same to write those bits alone
+pub index-kept : (g : Group) (x : Indexes) (v : ℕ) → withIndex g x (indexKept g v) ≡ withIndex g x v
+index-kept Cr x v = rw (kept-again Cr v)
+index-kept Sr x v = rw (kept-again Sr v)
+index-kept Gr x v = rw (kept-again Gr v)
+index-kept Xr x v = rw (kept-again Xr v)
+index-kept Fr x v = rw (kept-again Fr v)
+index-kept Mr x v = rw (kept-again Mr v)
+index-kept Msr x v = refl
+index-kept Palmask x v = refl
+index-kept Ar x v = rw (kept-again Ar v)
 
 -- the other groups' indexes stay
 pub index-other : (g h : Group) (x : Indexes) (v : ℕ) → (numberOf g ≡ numberOf h → ⊥) → indexOf h (withIndex g x v) ≡ indexOf h x
@@ -52,7 +63,7 @@ index-other g h x v other = go h (ne-eqb (numberOf g) (numberOf h) other)
     go Ar e = rw e
 
 -- the turn is no index
-pub index-turn : (h : Group) (x : Indexes) (turn : Bool) → indexOf h (withTurn x turn) ≡ indexOf h x
+pub index-turn : (h : Group) (x : Indexes) (turn : Bool) → indexByte h (withTurn x turn) ≡ indexByte h x
 index-turn Cr x turn = refl
 index-turn Sr x turn = refl
 index-turn Gr x turn = refl
@@ -63,43 +74,6 @@ index-turn Msr x turn = refl
 index-turn Palmask x turn = refl
 index-turn Ar x turn = refl
 
--- an index port belongs to one of those groups
-abbrev indexed : Target → Bool
-indexed (Index g) = ltb (numberOf g) 6
-indexed (Data g) = true
-indexed ReadIndex = true
-indexed WriteIndex = true
-indexed Paldata = true
-indexed Attribute = true
-indexed Status = true
-indexed NotPicked = true
-indexed NotListed = true
-
-abbrev rows-indexed : Bool → List Port → Bool
-rows-indexed write [] = true
-rows-indexed write (r ∷ rs) = indexed (r .leads write) && rows-indexed write rs
-
-indexed-in : (write : Bool) (rs : List Port) (p : ℕ) → rows-indexed write rs ≡ true → indexed (targetIn rs write p) ≡ true
-indexed-in write [] p t = refl
-indexed-in write (r ∷ rs) p t =
-    let (here, others) = and-both (indexed (r .leads write)) (rows-indexed write rs) t in
-    go (eqb p (r .number)) here (indexed-in write rs p others)
-  where
-    go : (z : Bool) → indexed (r .leads write) ≡ true → indexed (targetIn rs write p) ≡ true → indexed (cond z (r .leads write) (targetIn rs write p)) ≡ true
-    go true here others = here
-    go false here others = others
-
-pub index-port : (picks write : Bool) (p : ℕ) (g : Group) → target picks write p ≡ Index g → numberOf g < 6
-unfolding target ports
-index-port picks write p g leads =
-    ltb-true (numberOf g) 6 (sym (ap indexed leads) ∙ indexed-in write (ports picks) p (tests picks write))
-  where
-    tests : (picks write : Bool) → rows-indexed write (ports picks) ≡ true
-    tests true true = refl
-    tests true false = refl
-    tests false true = refl
-    tests false false = refl
-
 -- through the ports: what a write to an index port leaves, and what index ports read then
 module _ (c : Chip) (p v : ℕ) (g : Group) (free : portsOpen (named c) ≡ true) (writes : target (colour (named c)) true p ≡ Index g) where
   pub write-index : portWritten c p v ≡ wrote Done (withIndexes c (withIndex g (c .indexes) v))
@@ -109,9 +83,8 @@ module _ (c : Chip) (p v : ℕ) (g : Group) (free : portsOpen (named c) ≡ true
       → portRead (portWritten c p v .chip) q ≡ seen Done (indexOf h (withIndex g (c .indexes) v)) (portWritten c p v .chip)
   now-reads q h reads = rw write-index (read-open (withIndexes c (withIndex g (c .indexes) v)) q free ∙ rw reads refl)
 
-  pub index-reads-back : target (colour (named c)) false p ≡ Index g → portRead (portWritten c p v .chip) p ≡ seen Done v (portWritten c p v .chip)
-  index-reads-back reads =
-      now-reads p g reads ∙ ap (λ (b : ℕ). seen Done b (portWritten c p v .chip)) (index-same g (c .indexes) v (index-port _ true p g writes))
+  pub index-reads-back : target (colour (named c)) false p ≡ Index g → portRead (portWritten c p v .chip) p ≡ seen Done (indexKept g v) (portWritten c p v .chip)
+  index-reads-back reads = now-reads p g reads ∙ ap (λ (b : ℕ). seen Done b (portWritten c p v .chip)) (index-same g (c .indexes) v)
 
   pub index-reads-other : (q : ℕ) (h : Group) → (numberOf g ≡ numberOf h → ⊥) → target (colour (named c)) false q ≡ Index h
       → portRead (portWritten c p v .chip) q .value ≡ portRead c q .value
@@ -119,12 +92,17 @@ module _ (c : Chip) (p v : ℕ) (g : Group) (free : portsOpen (named c) ≡ true
       ap (λ (s : Seen). s .value) (now-reads q h reads) ∙ index-other g h (c .indexes) v other
       ∙ sym (rw (read-open c q free, reads) refl)
 
-  -- an index and then a byte: the register at that index receives the byte, as by name
+  -- an index and then a byte: the register at the bits that are kept receives the byte, as by name
   pub register-by-ports : (q b : ℕ) → target (colour (named c)) true q ≡ Data g
-      → portWritten (portWritten c p v .chip) q b ≡ wrote Done (join (received g (named c) v b) (withIndex g (c .indexes) v) (c .loading))
+      → portWritten (portWritten c p v .chip) q b
+      ≡ wrote Done (join (received g (named c) (indexKept g v) b) (withIndex g (c .indexes) v) (c .loading))
   register-by-ports q b data-port =
       rw write-index (write-data (withIndexes c (withIndex g (c .indexes) v)) q free g b data-port)
-      ∙ ap (λ (i : ℕ). wrote Done (join (received g (named c) i b) (withIndex g (c .indexes) v) (c .loading))) here
-    where
-      here : indexOf g (withIndex g (c .indexes) v) ≡ v
-      here = index-same g (c .indexes) v (index-port _ true p g writes)
+      ∙ ap (λ (i : ℕ). wrote Done (join (received g (named c) i b) (withIndex g (c .indexes) v) (c .loading))) (index-same g (c .indexes) v)
+
+-- a long index folds onto a short one
+pub index-folds : (c : Chip) (p v : ℕ) (g : Group) → portsOpen (named c) ≡ true → target (colour (named c)) true p ≡ Index g
+    → portWritten c p v ≡ portWritten c p (indexKept g v)
+index-folds c p v g free writes =
+    write-index c p v g free writes ∙ ap (λ (x : Indexes). wrote Done (withIndexes c x)) (sym (index-kept g (c .indexes) v))
+    ∙ sym (write-index c p (indexKept g v) g free writes)

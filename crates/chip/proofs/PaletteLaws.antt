@@ -12,6 +12,7 @@ use Rattle.lists.specs.Bits.{isSet}
 use Rattle.registers.specs.Extension.{XR}
 use Rattle.registers.specs.Groups.{rowOf}
 use Rattle.registers.specs.WriteRule.{lockedBy, writableNow}
+use Rattle.registers.specs.Indexes.{indexKept}
 use Rattle.registers.specs.declared.Group.the-variants.{Xr}
 use Rattle.ports.specs.Ports.{ports, target}
 use Rattle.chip.specs.State.{Named, named, join, withIndex, withLoading}
@@ -133,7 +134,7 @@ module _ (c : Chip) (e : ℕ) (free : portsOpen (named c) ≡ true) where
   pub XR80-before-blue : (r g w b : ℕ) → Has Xr (named c) 0x80 → e < length (c .palette)
       → entry (named (after (portWritten (portWritten (after (after (portWritten c 0x3C8 e .chip) r) g) 0x3D6 0x80 .chip) 0x3D7 w .chip) b)) e
       ≡ rgb (byMode (isSet 7 w) r) (byMode (isSet 7 w) g) (byMode (isSet 7 w) b)
-  unfolding target ports
+  unfolding target ports indexKept
   XR80-before-blue r g w b has inside =
       ap (λ (d : Chip). entry (named (after d b)) e) mode-written
       ∙ ap (λ (d : Chip). entry (named d) e) (blue-stored (c .loading) e false r g b after-mode _ (XR80-leaves-ports (named c) w ∙ free))

@@ -1,7 +1,7 @@
 -- Accesses keep sizes: no table and not the palette gets longer or shorter. So in every state that they reach from a reset each
 -- register with an index below 256 has its place, and the palette has 256 entries: what `received-same`, `received-bit` and
 -- `coloured-same` ask for. No index passes 255 there, so this holds of the register and the entry that an index names.
-use Prim.Native.Nat.{ℕ, _%_, _<_}
+use Prim.Native.Nat.{ℕ, _<_}
 use native.Mathlib.Omega.{arith}
 use mathlib.Core.Bool.{Bool, true, false, cond}
 use mathlib.Core.Path.{_≡_, refl, ap, _∙_}
@@ -9,13 +9,15 @@ use mathlib.Core.List.{List}
 use lib.Dec.{eqb}
 use lib.ListN.{length, set, length-set, length-replicate}
 use Rattle.registers.specs.Groups.{is}
+use Rattle.registers.specs.Indexes.{fits}
 use Rattle.registers.specs.WriteRule.{written}
+use Rattle.registers.proofs.IndexLaws.{kept-fits, fits-kept, kept-byte}
 use Rattle.registers.specs.declared.Group.{Group}
 use Rattle.registers.specs.declared.Group.the-variants.{Cr, Sr, Gr, Xr, Fr, Mr, Msr, Palmask, Ar}
 use Rattle.ports.specs.Ports.{target}
 use Rattle.ports.specs.declared.Target.{Target}
 use Rattle.ports.specs.declared.Target.the-variants.{Index, Data, ReadIndex, WriteIndex, Paldata, Attribute, Status, NotPicked, NotListed}
-use Rattle.chip.specs.State.{Named, named, indexOf, withIndex}
+use Rattle.chip.specs.State.{Named, named, indexByte, indexOf, withIndex}
 use Rattle.chip.specs.Names.{register, received, writableAt, portsOpen, colour, eightBit}
 use Rattle.chip.specs.Palette.{rgb, byMode, entry, coloured, held, moved}
 use Rattle.chip.specs.Attribute.{attributeSet, attributeAimed}
@@ -72,42 +74,42 @@ reach-palette fresh = length-replicate 256 (rgb 0 0 0)
 reach-palette (wrote {c} p v hv r) = length-palette-written c p v ∙ reach-palette r
 reach-palette (saw {c} p r) = ap (λ (n : Named). length (n .palette)) (read-keeps-all c p .0) ∙ reach-palette r
 
--- no index passes 255: the seven of the groups, and the palette's
+-- the bytes that hold the seven indexes have no bit that their index registers do not keep, and the palette's index does not pass 255
 record Within (c : Chip) : Type 0 where
-  groups : (g : Group) → indexOf g (c .indexes) < 0x100
+  groups : (g : Group) → fits g (indexByte g (c .indexes)) ≡ true
   colours : c .loading .index < 0x100
 
-either : {A : Type 0} (f : A → ℕ) (z : Bool) (a b : A) → f a < 0x100 → f b < 0x100 → f (cond z a b) < 0x100
-either f true a b ha hb = ha
-either f false a b ha hb = hb
+either : {A : Type 0} (P : A → Type 0) (z : Bool) (a b : A) → P a → P b → P (cond z a b)
+either P true a b ha hb = ha
+either P false a b ha hb = hb
 
-index-below : (g h : Group) (x : Indexes) (v : ℕ) → v < 0x100 → indexOf h x < 0x100 → indexOf h (withIndex g x v) < 0x100
-index-below g Cr x v new old = either (λ i. i) (is g Cr) v (x .cr) new old
-index-below g Sr x v new old = either (λ i. i) (is g Sr) v (x .sr) new old
-index-below g Gr x v new old = either (λ i. i) (is g Gr) v (x .gr) new old
-index-below g Xr x v new old = either (λ i. i) (is g Xr) v (x .xr) new old
-index-below g Fr x v new old = either (λ i. i) (is g Fr) v (x .fr) new old
-index-below g Mr x v new old = either (λ i. i) (is g Mr) v (x .mr) new old
-index-below g Msr x v new old = old
-index-below g Palmask x v new old = old
-index-below g Ar x v new old = omega arith
+index-fits : (g h : Group) (x : Indexes) (v : ℕ) → fits h (indexByte h x) ≡ true → fits h (indexByte h (withIndex g x v)) ≡ true
+index-fits g Cr x v old = either (λ i. fits Cr i ≡ true) (is g Cr) _ _ (kept-fits Cr v) old
+index-fits g Sr x v old = either (λ i. fits Sr i ≡ true) (is g Sr) _ _ (kept-fits Sr v) old
+index-fits g Gr x v old = either (λ i. fits Gr i ≡ true) (is g Gr) _ _ (kept-fits Gr v) old
+index-fits g Xr x v old = either (λ i. fits Xr i ≡ true) (is g Xr) _ _ (kept-fits Xr v) old
+index-fits g Fr x v old = either (λ i. fits Fr i ≡ true) (is g Fr) _ _ (kept-fits Fr v) old
+index-fits g Mr x v old = either (λ i. fits Mr i ≡ true) (is g Mr) _ _ (kept-fits Mr v) old
+index-fits g Msr x v old = old
+index-fits g Palmask x v old = old
+index-fits g Ar x v old = either (λ i. fits Ar i ≡ true) (is g Ar) _ _ (kept-fits Ar v) old
 
 moved-below : (l : Loading) → l .index < 0x100 → moved l .index < 0x100
-moved-below l h = either (λ (m : Loading). m .index) (eqb (l .position) 2) _ _ (omega arith) h
+moved-below l h = either (λ (m : Loading). m .index < 0x100) (eqb (l .position) 2) _ _ (omega arith) h
 
 held-below : (l : Loading) (v : ℕ) → l .index < 0x100 → held l v .index < 0x100
 held-below l v h =
-    either (λ (m : Loading). m .index) (eqb (l .position) 2) _ _ h (either (λ (m : Loading). m .index) (eqb (l .position) 1) _ _ h h)
+    either (λ (m : Loading). m .index < 0x100) (eqb (l .position) 2) _ _ h (either (λ (m : Loading). m .index < 0x100) (eqb (l .position) 1) _ _ h h)
 
 attribute-within : (c : Chip) (v : ℕ) → Within c → (z : Bool) → Within (cond z (attributeSet c v) (attributeAimed c v))
 attribute-within c v w true = record { groups = λ h. rw (index-turn h (c .indexes) false) (w .groups h); colours = w .colours }
 attribute-within c v w false = record {
-  groups = λ h. rw (index-turn h (withIndex Ar (c .indexes) (v % 32)) true) (index-below Ar h (c .indexes) (v % 32) (omega arith) (w .groups h));
+  groups = λ h. rw (index-turn h (withIndex Ar (c .indexes) v) true) (index-fits Ar h (c .indexes) v (w .groups h));
   colours = w .colours;
 }
 
 write-within : (t : Target) (c : Chip) (v : ℕ) → v < 0x100 → Within c → Within (writeTo t c v .chip)
-write-within (Index g) c v hv w = record { groups = λ h. index-below g h (c .indexes) v hv (w .groups h); colours = w .colours }
+write-within (Index g) c v hv w = record { groups = λ h. index-fits g h (c .indexes) v (w .groups h); colours = w .colours }
 write-within (Data g) c v hv w = record { groups = w .groups; colours = w .colours }
 write-within ReadIndex c v hv w = record { groups = w .groups; colours = hv }
 write-within WriteIndex c v hv w = record { groups = w .groups; colours = hv }
@@ -118,19 +120,19 @@ write-within NotPicked c v hv w = w
 write-within NotListed c v hv w = w
 
 fresh-within : (first second : ℕ) → Within (reset first second)
-unfolding reset
+unfolding reset fits
 fresh-within first second = record { groups = zeros; colours = omega arith }
   where
-    zeros : (g : Group) → indexOf g (reset first second .indexes) < 0x100
-    zeros Cr = omega arith
-    zeros Sr = omega arith
-    zeros Gr = omega arith
-    zeros Xr = omega arith
-    zeros Fr = omega arith
-    zeros Mr = omega arith
-    zeros Msr = omega arith
-    zeros Palmask = omega arith
-    zeros Ar = omega arith
+    zeros : (g : Group) → fits g (indexByte g (reset first second .indexes)) ≡ true
+    zeros Cr = refl
+    zeros Sr = refl
+    zeros Gr = refl
+    zeros Xr = refl
+    zeros Fr = refl
+    zeros Mr = refl
+    zeros Msr = refl
+    zeros Palmask = refl
+    zeros Ar = refl
 
 reach-within : {first second : ℕ} {c : Chip} → Reach first second c → Within c
 reach-within {first} {second} fresh = fresh-within first second
@@ -140,9 +142,13 @@ reach-within (saw {c} p r) =
     state-read Within c p w (record { groups = w .groups; colours = moved-below (c .loading) (w .colours) })
     (record { groups = λ h. rw (index-turn h (c .indexes) false) (w .groups h); colours = w .colours })
 
--- so the register that a data port works on has its place, and the entry that the palette's index names is one of the 256
+-- so the byte that holds an index is the index
+pub reach-kept : {first second : ℕ} {c : Chip} → Reach first second c → (g : Group) → indexOf g (c .indexes) ≡ indexByte g (c .indexes)
+reach-kept {c = c} r g = fits-kept g (indexByte g (c .indexes)) (reach-within r .groups g)
+
+-- the register that a data port works on has its place, and the entry that the palette's index names is one of the 256
 pub reach-has-current : {first second : ℕ} {c : Chip} → Reach first second c → (g : Group) → Has g (named c) (indexOf g (c .indexes))
-reach-has-current {c = c} r g = reach-has r g (indexOf g (c .indexes)) (reach-within r .groups g)
+reach-has-current {c = c} r g = reach-has r g (indexOf g (c .indexes)) (kept-byte g (indexByte g (c .indexes)))
 
 pub reach-entry : {first second : ℕ} {c : Chip} → Reach first second c → c .loading .index < length (c .palette)
 reach-entry r = rw (reach-palette r) (reach-within r .colours)

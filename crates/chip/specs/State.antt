@@ -1,10 +1,11 @@
 -- The state in two parts: what has a name (registers and colours, and bit 5 of the attribute index, which decides whether there is a
 -- picture), and the rest (the seven indexes, the turn of 3C0h, the palette's loading state). Document 01, "Ports": the chip state;
 -- document 02, P1: what the attribute registers add. Every access is said as a change of these parts.
-use Prim.Native.Nat.{ℕ, _%_}
+use Prim.Native.Nat.{ℕ}
 use mathlib.Core.Bool.{Bool, cond}
 use mathlib.Core.List.{List}
 use Rattle.registers.specs.Groups.{is}
+use Rattle.registers.specs.Indexes.{indexKept}
 use Rattle.registers.specs.declared.Group.{Group}
 use Rattle.registers.specs.declared.Group.the-variants.{Cr, Sr, Gr, Xr, Fr, Mr, Msr, Palmask, Ar}
 use Rattle.chip.specs.declared.Chip.{Chip}
@@ -87,28 +88,32 @@ sameRegisters n colours lit = record {
 abbrev pub withPicture : Named → Bool → Named
 withPicture n lit = sameRegisters n (n .palette) lit
 
--- a group's index; MSR and PALMASK have none, and stand at 0. Of the attribute index these are the low five bits
-abbrev pub indexOf : Group → Indexes → ℕ
-indexOf Cr x = x .cr
-indexOf Sr x = x .sr
-indexOf Gr x = x .gr
-indexOf Xr x = x .xr
-indexOf Fr x = x .fr
-indexOf Mr x = x .mr
-indexOf Msr x = 0x00
-indexOf Palmask x = 0x00
-indexOf Ar x = x .ar % 32
+-- the byte that holds a group's index; MSR and PALMASK have none, and stand at 0
+abbrev pub indexByte : Group → Indexes → ℕ
+indexByte Cr x = x .cr
+indexByte Sr x = x .sr
+indexByte Gr x = x .gr
+indexByte Xr x = x .xr
+indexByte Fr x = x .fr
+indexByte Mr x = x .mr
+indexByte Msr x = 0x00
+indexByte Palmask x = 0x00
+indexByte Ar x = x .ar
 
--- the indexes with one group's replaced
+-- a group's index: the bits that its index register has (document 02, P5). In a reached state the byte has no others: law `reach-kept`
+abbrev pub indexOf : Group → Indexes → ℕ
+indexOf g x = indexKept g (indexByte g x)
+
+-- the indexes after one group's is written: it keeps the bits that its index register has
 abbrev pub withIndex : Group → Indexes → ℕ → Indexes
 withIndex g x v = record {
-  cr = cond (is g Cr) v (x .cr);
-  sr = cond (is g Sr) v (x .sr);
-  gr = cond (is g Gr) v (x .gr);
-  xr = cond (is g Xr) v (x .xr);
-  fr = cond (is g Fr) v (x .fr);
-  mr = cond (is g Mr) v (x .mr);
-  ar = cond (is g Ar) v (x .ar);
+  cr = cond (is g Cr) (indexKept Cr v) (x .cr);
+  sr = cond (is g Sr) (indexKept Sr v) (x .sr);
+  gr = cond (is g Gr) (indexKept Gr v) (x .gr);
+  xr = cond (is g Xr) (indexKept Xr v) (x .xr);
+  fr = cond (is g Fr) (indexKept Fr v) (x .fr);
+  mr = cond (is g Mr) (indexKept Mr v) (x .mr);
+  ar = cond (is g Ar) (indexKept Ar v) (x .ar);
   turn = x .turn;
 }
 

@@ -1,13 +1,14 @@
-// Port reads and writes. Document 01, "Ports" and numbers 0, 1 and 2, and document 02, P1. A refused access hands
-// back the state as it was.
+// Port reads and writes. Document 01, "Ports" and numbers 0, 1 and 2, and document 02, P1 and P5. A refused access
+// hands back the state as it was.
 ghost use mathlib.Core.Bool.{true, false};
 ghost use mathlib.Core.Path.{_≡_};
-ghost use Rattle.chip.specs.State.{named, join, indexOf, withIndex};
+ghost use Rattle.chip.specs.State.{named, join, indexByte, indexOf, withIndex};
 ghost use Rattle.chip.specs.Access.{numberOf, accessNumber, portWritten, portRead};
 use crate::Chip;
 use ports::Target;
 use ports::leads_to;
 use registers::Group;
+use registers::index_kept;
 
 // How an access ended.
 pub enum Answer {
@@ -41,9 +42,9 @@ pub fn number(a: Answer) -> u8
 }
 
 impl Chip {
-    // A group's index; MSR and PALMASK have none, and stand at 0. Of the attribute index it is the low five bits.
-    pub fn index(self, g: Group) -> u8
-        ensures { λ r. ⌜ r ≡ indexOf g (self .indexes) ⌝ }
+    // The byte that holds a group's index; MSR and PALMASK have none, and stand at 0.
+    fn index_byte(self, g: Group) -> u8
+        ensures { λ r. ⌜ r ≡ indexByte g (self .indexes) ⌝ }
     {
         match g {
             Group::Cr => self.indexes.cr,
@@ -54,24 +55,32 @@ impl Chip {
             Group::Mr => self.indexes.mr,
             Group::Msr => 0x00,
             Group::Palmask => 0x00,
-            Group::Ar => self.indexes.ar % 32,
+            Group::Ar => self.indexes.ar,
         }
     }
 
-    // The state after a group's index is written.
+    // A group's index: the bits that its index register has.
+    pub fn index(self, g: Group) -> u8
+        ensures { λ r. ⌜ r ≡ indexOf g (self .indexes) ⌝ }
+    {
+        index_kept(g, self.index_byte(g))
+    }
+
+    // The state after a group's index is written: it keeps the bits that its index register has.
     pub fn with_index(mut self, g: Group, v: u8) -> Chip
         ensures { λ r. ⌜ r ≡ join (named self) (withIndex g (self .indexes) v) (self .loading) ⌝ }
     {
+        let kept = index_kept(g, v);
         match g {
-            Group::Cr => self.indexes.cr = v,
-            Group::Sr => self.indexes.sr = v,
-            Group::Gr => self.indexes.gr = v,
-            Group::Xr => self.indexes.xr = v,
-            Group::Fr => self.indexes.fr = v,
-            Group::Mr => self.indexes.mr = v,
+            Group::Cr => self.indexes.cr = kept,
+            Group::Sr => self.indexes.sr = kept,
+            Group::Gr => self.indexes.gr = kept,
+            Group::Xr => self.indexes.xr = kept,
+            Group::Fr => self.indexes.fr = kept,
+            Group::Mr => self.indexes.mr = kept,
             Group::Msr => {}
             Group::Palmask => {}
-            Group::Ar => self.indexes.ar = v,
+            Group::Ar => self.indexes.ar = kept,
         }
         self
     }

@@ -28,7 +28,7 @@ impl Chip {
         ensures { λ r. ⌜ r ≡ attributeAimed self v ⌝ }
     {
         self.picture = v / 32 % 2 == 1;
-        self.with_index(Group::Ar, v % 32).with_turn(true)
+        self.with_index(Group::Ar, v).with_turn(true)
     }
 
     // The state after the register at the attribute index received a byte: an index comes next.

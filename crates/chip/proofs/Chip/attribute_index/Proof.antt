@@ -1,10 +1,12 @@
 -- Bit 5 beside the low five, which leave room for it.
 use native.Mathlib.Omega.{arith}
+use Rattle.registers.specs.Indexes.{indexKept}
 use borrow.Author.Needs.{needs}
 use Rattle.chip.proofs.Chip.attribute_index.Statement.{statement}
 use Rattle.chip.proofs.Chip.attribute_index.Tie as tie
 
 pub attribute-index-spec : {M : Type 1} → statement M
+unfolding indexKept
 attribute-index-spec =
     tie.close
     (tie.spec

@@ -1,4 +1,4 @@
--- By the group.
+-- What is kept of the byte.
 use borrow.Author.Needs.{needs}
 use Rattle.chip.proofs.Chip.index.Statement.{statement}
 use Rattle.chip.proofs.Chip.index.Tie as tie
@@ -7,21 +7,6 @@ pub index-spec : {M : Type 1} → statement M
 index-spec =
     tie.close
     (tie.spec
-    (λ c. search needs)
-    (λ c. search needs)
-    (λ c. search needs)
-    (λ c. search needs)
-    (λ c. search needs)
-    (λ c. search needs)
-    (λ c. search needs)
-    (λ c. search needs)
-    (λ c. search needs)
-    (λ c. rw (c .enum-told .given .1))
-    (λ c. rw (c .enum-told2 .given .1))
-    (λ c. rw (c .enum-told3 .given .1))
-    (λ c. rw (c .enum-told4 .given .1))
-    (λ c. rw (c .enum-told5 .given .1))
-    (λ c. rw (c .enum-told6 .given .1))
-    (λ c. rw (c .enum-told7 .given .1))
-    (λ c. rw (c .enum-told8 .given .1))
-    (λ c. rw (c .before .enum-told9 .given .1)))
+    (λ c κs. search needs)
+    (λ c κs. search needs)
+    (λ c. rw (c .index-kept .ensures, c .before .index-byte .ensures)))

@@ -1,4 +1,4 @@
--- By the group.
+-- By the group, with what is kept of the byte.
 use borrow.Author.Needs.{needs}
 use Rattle.chip.proofs.Chip.with_index.Statement.{statement}
 use Rattle.chip.proofs.Chip.with_index.Tie as tie
@@ -7,6 +7,7 @@ pub with-index-spec : {M : Type 1} → statement M
 with-index-spec =
     tie.close
     (tie.spec
+    (λ c κs. search needs)
     (λ c. search needs)
     (λ c. search needs)
     (λ c. search needs)
@@ -16,12 +17,12 @@ with-index-spec =
     (λ c. search needs)
     (λ c. search needs)
     (λ c. search needs)
-    (λ c. rw (c .before .enum-told .given .1))
-    (λ c. rw (c .before .enum-told2 .given .1))
-    (λ c. rw (c .before .enum-told3 .given .1))
-    (λ c. rw (c .before .enum-told4 .given .1))
-    (λ c. rw (c .before .enum-told5 .given .1))
-    (λ c. rw (c .before .enum-told6 .given .1))
+    (λ c. rw (c .before .before .before .index-kept .ensures, c .before .enum-told .given .1))
+    (λ c. rw (c .before .before .before .index-kept .ensures, c .before .enum-told2 .given .1))
+    (λ c. rw (c .before .before .before .index-kept .ensures, c .before .enum-told3 .given .1))
+    (λ c. rw (c .before .before .before .index-kept .ensures, c .before .enum-told4 .given .1))
+    (λ c. rw (c .before .before .before .index-kept .ensures, c .before .enum-told5 .given .1))
+    (λ c. rw (c .before .before .before .index-kept .ensures, c .before .enum-told6 .given .1))
     (λ c. rw (c .enum-told7 .given .1))
     (λ c. rw (c .enum-told8 .given .1))
-    (λ c. rw (c .before .enum-told9 .given .1)))
+    (λ c. rw (c .before .before .before .index-kept .ensures, c .before .enum-told9 .given .1)))
