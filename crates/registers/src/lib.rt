@@ -75,7 +75,7 @@ pub fn index_kept(g: Group, v: u8) -> u8
 }
 
 // Whether an index fits its group: the index register keeps all of it.
-pub fn fits(g: Group, i: u8) -> bool
+pub fn index_fits(g: Group, i: u8) -> bool
     ensures { λ r. ⌜ r ≡ fits g i ⌝ }
 {
     i <= index_mask(g)

@@ -3,19 +3,22 @@
 -- numbers. A step that can do nothing: an unlisted register, a listed one by its bits, and what does not
 -- matter. What a step comes to, each answer exactly when.
 use mathlib.Core.Path.{_≡_, refl, sym, ap, _∙_}
-use mathlib.Core.Bool.{Bool, true, false, not, and-true, or-false}
+use mathlib.Core.Bool.{Bool, true, false, not, _&&_, and-true, and-false}
 use Prim.Native.Nat.{ℕ, zero, suc, _*_, _/_, _%_, _^_, _≤_, _<_}
 use native.Mathlib.Nat.{pow-succ', div-div-eq-div-mul}
 use native.Mathlib.Omega.{arith}
-use borrow.Author.Tests.{lt-ltb, le-ltb, eqb-true, eq-eqb, ne-eqb}
+use borrow.Author.Tests.{lt-ltb, le-ltb, ltb-true, eqb-true, eqb-false, eq-eqb, ne-eqb}
 use lib.Dec.{ltb, eqb}
 use lib.Bits.{bitAnd, and-step, and-shr, and-zero-l}
 use Rattle.lists.specs.Bits.{bit}
 use Rattle.lists.specs.Scan.{every}
+use Rattle.lists.proofs.Tests.{and-both}
 use Rattle.registers.specs.Attribute.{AR}
 use Rattle.registers.specs.CrtController.{CR}
 use Rattle.registers.specs.Extension.{XR}
-use Rattle.registers.specs.Groups.{groupAt, rowOf}
+use Rattle.registers.specs.Groups.{groupAt, isIndexed, rowOf}
+use Rattle.registers.specs.Indexes.{fits}
+use Rattle.registers.proofs.IndexLaws.{misfit-unlisted}
 use Rattle.registers.specs.declared.Row.the-variants.{Listed, Unlisted}
 use Rattle.steps.specs.Step.{names, within, legal, unwritable, idle, judged}
 use Rattle.steps.specs.declared.Fault.the-variants.{Unallowed, Idle}
@@ -24,25 +27,57 @@ use Rattle.steps.specs.declared.Step.the-variants.{Set, Field, Colour}
 use Rattle.steps.specs.declared.StepRead.{StepRead}
 use Rattle.steps.specs.declared.StepRead.the-variants.{Good, Refused}
 
--- ---- document 01, Scripts: "Groups are 0 to 7; for 6 and 7 the index is 0."
-pub names-indexed : (group index : ℕ) → group < 6 → names group index ≡ true
-names-indexed g i h = rw (lt-ltb _ _ h)
+-- ---- document 02, P5: "a step whose index doesn't fit its group is refused", and of the first six groups every index that fits is named
+pub names-indexed : (group index : ℕ) → group < 6 → names group index ≡ fits (groupAt group) index
+unfolding names
+names-indexed g i h =
+    let k : g < 8 = omega arith in
+    let m : g < 9 = omega arith in
+    rw (lt-ltb _ _ m, lt-ltb _ _ k) (and-true (fits (groupAt g) i))
 
+pub names-SR : (index : ℕ) → names 1 index ≡ ltb index 0x08
+unfolding groupAt fits
+names-SR i = names-indexed 1 i (omega arith)
+
+pub names-GR : (index : ℕ) → names 2 index ≡ ltb index 0x10
+unfolding groupAt fits
+names-GR i = names-indexed 2 i (omega arith)
+
+-- ---- document 01, Scripts: "Groups are 0 to 7; for 6 and 7 the index is 0."
 pub names-single : (group index : ℕ) → 6 ≤ group → group < 8 → names group index ≡ eqb index 0
-names-single g i h k =
-    let n : g ≡ 8 → ⊥ = λ e. omega arith in
-    rw (le-ltb _ _ h, lt-ltb _ _ k, ne-eqb _ _ n) (or-false (eqb i 0))
+unfolding names groupAt fits
+names-single g i h k = go (eqb g 6) refl
+  where
+    one : (i : ℕ) → (ltb i 1 && true) ≡ eqb i 0
+    one zero = refl
+    one (suc i) = let n : 1 ≤ suc i = omega arith in let z : suc i ≡ 0 → ⊥ = λ e. omega arith in rw (le-ltb _ _ n, ne-eqb _ _ z)
+
+    go : (b : Bool) → eqb g 6 ≡ b → names g i ≡ eqb i 0
+    go true e = let is : g ≡ 6 = eqb-true _ _ e in rw is (one i)
+    go false e = let is : g ≡ 7 = omega (arith, eqb-false g 6 e) in rw is (one i)
 
 -- ---- document 02, P1: "group 8 with an index above 14h is 7"
 pub names-attribute : (index : ℕ) → names 8 index ≡ ltb index 0x15
-names-attribute i = refl
+unfolding names groupAt fits
+names-attribute i = go (ltb i 0x15) refl
+  where
+    go : (b : Bool) → ltb i 0x15 ≡ b → (ltb i 0x20 && b) ≡ b
+    go true e = let h : i < 0x15 = ltb-true _ _ e in let k : i < 0x20 = omega arith in rw (lt-ltb _ _ k)
+    go false e = and-false (ltb i 0x20)
 
 pub names-none : (group index : ℕ) → 9 ≤ group → names group index ≡ false
-names-none g i h =
-    let k : 6 ≤ g = omega arith in
-    let m : 8 ≤ g = omega arith in
-    let n : g ≡ 8 → ⊥ = λ e. omega arith in
-    rw (le-ltb _ _ k, le-ltb _ _ m, ne-eqb _ _ n)
+unfolding names
+names-none g i h = rw (le-ltb _ _ h)
+
+-- a group and an index that a step may name: there is the group, and the index fits it
+module _ (g i : ℕ) (named : names g i ≡ true) where
+  pub named-group : g < 9
+  unfolding names
+  named-group = ltb-true _ _ (and-both (ltb g 9) _ (and-both (ltb g 9 && fits (groupAt g) i) _ named .0) .0)
+
+  pub named-fits : fits (groupAt g) i ≡ true
+  unfolding names
+  named-fits = and-both (ltb g 9) _ (and-both (ltb g 9 && fits (groupAt g) i) _ named .0) .1
 
 -- ---- a FIELD with mask 00h is legal: it has no bit to say anything of
 pub field-no-mask : (group index : ℕ) → legal (Field group index 0 0) ≡ names group index
@@ -75,6 +110,10 @@ unlisted-unwritable g i e = rw e
 
 pub listed-unwritable : (group index w r : ℕ) → rowOf (groupAt group) index ≡ Listed w r → unwritable group index ≡ eqb w 0
 listed-unwritable g i w r e = rw e
+
+-- an index that does not fit is not listed, so that P5 refuses no step that passed: without it such a step would be refused with 11
+pub misfit-unwritable : (group index : ℕ) → isIndexed (groupAt group) ≡ true → fits (groupAt group) index ≡ false → unwritable group index ≡ true
+misfit-unwritable g i x h = unlisted-unwritable g i (misfit-unlisted (groupAt g) i x h)
 
 -- a SET by its register alone, and a FIELD like it, whatever its mask; a COLOUR never
 pub idle-set : (group index value : ℕ) → idle (Set group index value) ≡ unwritable group index

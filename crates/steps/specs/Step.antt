@@ -1,5 +1,5 @@
 -- A step of a script: what a legal step is, which step can do nothing, the six bytes of a step, and what
--- reading six bytes finds (document 01, Scripts; document 02, P1 and P2). `judged` is the one definition of
+-- reading six bytes finds (document 01, Scripts; document 02, P1, P2 and P5). `judged` is the one definition of
 -- a step that passes, for the reader, the writer and a text of steps; `names` is the part of it that says
 -- which group and index a step may name. That reading and writing undo each other is proofs/Codec.
 use Prim.Native.Nat.{ℕ}
@@ -10,6 +10,7 @@ use lib.Bits.{bitAnd}
 use lib.ListN.{length, getD, take, drop}
 use Rattle.lists.specs.Numbers.{Returned, returned}
 use Rattle.registers.specs.Groups.{groupAt, writableOf}
+use Rattle.registers.specs.Indexes.{fits}
 use Rattle.steps.specs.declared.Step.{Step}
 use Rattle.steps.specs.declared.Step.the-variants.{Set, Field, Colour}
 use Rattle.steps.specs.declared.Fault.{Fault}
@@ -17,10 +18,10 @@ use Rattle.steps.specs.declared.Fault.the-variants.{Unallowed, Idle}
 use Rattle.steps.specs.declared.StepRead.{StepRead}
 use Rattle.steps.specs.declared.StepRead.the-variants.{Good, Refused}
 
--- document 01, Scripts: "Groups are 0 to 7; for 6 and 7 the index is 0." Document 02, P1: "Scripts gain
--- group 8", and "group 8 with an index above 14h is 7".
-abbrev pub names : ℕ → ℕ → Bool
-names group index = ltb group 6 || (ltb group 8 && eqb index 0) || (eqb group 8 && ltb index 0x15)
+-- document 01, Scripts: "Groups are 0 to 7; for 6 and 7 the index is 0." Document 02, P1: "Scripts gain group 8", and "group 8 with an
+-- index above 14h is 7"; P5: "a step whose index doesn't fit its group is refused". MSR and PALMASK have no index, so that 0 alone fits.
+unfoldable pub names : ℕ → ℕ → Bool
+names group index = ltb group 9 && fits (groupAt group) index && (ltb group 8 || ltb index 0x15)
 
 -- "value has no bit outside mask"
 abbrev pub within : ℕ → ℕ → Bool

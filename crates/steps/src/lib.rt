@@ -1,5 +1,5 @@
 // One step of a script: an enum of three kinds, six bytes read as a step or refused, and a step written as
-// six bytes (document 01, Scripts; document 02, P1 and P2; numbers 7 and 11). Which step passes stands in one
+// six bytes (document 01, Scripts; document 02, P1, P2 and P5; numbers 7 and 11). Which step passes stands in one
 // definition, `judged` of specs/Step, and in one function, `judge`. Group and index are numbers here; which
 // bits of their register can be written is asked of the register's row, and what the register holds is the
 // chip's.
@@ -8,6 +8,7 @@ ghost use mathlib.Core.List.{[], _∷_};
 ghost use Rattle.steps.specs.Step.{names, legal, unwritable, idle, judged, shaped, stepOf, readAt, bytesOf, faultNumber};
 use masks::writable;
 use registers::group_at;
+use registers::index_fits;
 
 // A step read is one of three kinds..
 pub enum Step {
@@ -56,11 +57,11 @@ impl Fault {
     }
 }
 
-// Whether a group has a register of this index.
+// Whether there is this group, and a register of it can have this index.
 pub fn is_named(group: u8, index: u8) -> bool
     ensures { λ r. ⌜ r ≡ names group index ⌝ }
 {
-    (group < 6) | (group < 8) & (index == 0) | (group == 8) & (index < 0x15)
+    (group < 9) & index_fits(group_at(group), index) & ((group < 8) | (index < 0x15))
 }
 
 // Whether a step is legal.

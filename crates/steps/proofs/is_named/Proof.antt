@@ -1,7 +1,12 @@
--- `is_named` meets its contract: its test is the definition's.
-use mathlib.Core.Path.{refl}
+-- `is_named` meets its contract: the group of the number, and whether the index fits it.
+use Rattle.steps.specs.Step.{names}
+use borrow.Author.Needs.{needs}
 use Rattle.steps.proofs.is_named.Statement.{statement}
 use Rattle.steps.proofs.is_named.Tie as tie
 
+returns : tie.Need-returns
+unfolding names
+returns c = rw (c .index-fits .ensures, c .before .group-at .ensures)
+
 pub is-named-spec : {M : Type 1} → statement M
-is-named-spec = tie.close (tie.spec (λ c. refl))
+is-named-spec = tie.close (tie.spec (λ c κs. search needs) (λ c κs. search needs) returns)
