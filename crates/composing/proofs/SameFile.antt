@@ -18,7 +18,7 @@ use Rattle.lists.proofs.Tab.{tab-length}
 use Rattle.lists.proofs.Tests.{and-both}
 use Rattle.text.specs.Digits.{lastDigit, byteDigits}
 use Rattle.steps.specs.Step.{legal, bytesOf}
-use Rattle.steps.proofs.Lawful.{Passes, passes-good}
+use Rattle.steps.proofs.Lawful.{named-group, Passes, passes-good}
 use Rattle.steps.specs.declared.Step.{Step}
 use Rattle.steps.specs.declared.Step.the-variants.{Set, Field, Colour}
 use Rattle.script.specs.File.{blocks, stepPlace, checked}
@@ -32,7 +32,7 @@ use Rattle.script.proofs.Counting.{accepted-few}
 use Rattle.script.proofs.Reading.{accepted-handed}
 use Rattle.spelling.specs.Written.{letter, nameText, byteText, stepText, stepLine}
 use Rattle.spelling.specs.declared.Line.{Line}
-use Rattle.spelling.proofs.ReadBack.{digit-range, letter-range, named-group, reads-back}
+use Rattle.spelling.proofs.ReadBack.{digit-range, letter-range, reads-back}
 use Rattle.showing.specs.Show.{lineOfNext, textTo, textOf}
 use Rattle.writer.specs.Write.{fileOf, written, stepsOf}
 use Rattle.writer.proofs.Again.{file-again}
@@ -75,11 +75,11 @@ name-plain g i h = go (eqb g 6) (eqb g 7)
 
 step-plain : (s : Step) → legal s ≡ true → plain (stepText s) ≡ true
 unfolding stepText legal
-step-plain (Set g i v) ok = plain-append (nameText g i) (byteText v) (name-plain g i (named-group g i ok .0)) (byte-plain v)
+step-plain (Set g i v) ok = plain-append (nameText g i) (byteText v) (name-plain g i (named-group g i ok)) (byte-plain v)
 step-plain (Field g i v m) ok =
     let t = and-both _ _ ok in
     plain-append (nameText g i ++ byteText m) (byteText v)
-    (plain-append (nameText g i) (byteText m) (name-plain g i (named-group g i (t .0) .0)) (byte-plain m))
+    (plain-append (nameText g i) (byteText m) (name-plain g i (named-group g i (t .0))) (byte-plain m))
     (byte-plain v)
 step-plain (Colour e r g b) ok = rw (
   digit-plain (e / 16),

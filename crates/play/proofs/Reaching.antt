@@ -10,7 +10,9 @@ use borrow.Author.Tests.{eqb-true, ltb-true}
 use Rattle.lists.specs.Bits.{bit, isSet}
 use Rattle.registers.specs.Extension.{XR}
 use Rattle.registers.specs.Groups.{groupAt, rowOf, writableOf}
+use Rattle.registers.specs.Indexes.{indexKept}
 use Rattle.registers.proofs.WriteLaws.{locked-fewer}
+use Rattle.registers.proofs.IndexLaws.{fits-kept}
 use Rattle.registers.specs.declared.Group.{Group}
 use Rattle.registers.specs.declared.Group.the-variants.{Cr, Xr, Ar}
 use Rattle.ports.specs.Ports.{ports, target}
@@ -18,10 +20,11 @@ use Rattle.ports.specs.declared.Target.the-variants.{Index, Data, Attribute, No
 use Rattle.chip.specs.State.{Named, indexOf, withIndex}
 use Rattle.chip.specs.Names.{locked, received, portsOpen, colour}
 use Rattle.chip.specs.Palette.{coloured}
+use Rattle.chip.proofs.IndexLaws.{index-same}
 use Rattle.chip.proofs.NameLaws.{received-keeps-bit, coloured-keeps-register}
 use Rattle.chip.specs.declared.Indexes.{Indexes}
 use Rattle.steps.specs.Step.{names}
-use Rattle.steps.proofs.Lawful.{names-single, names-none}
+use Rattle.steps.proofs.Lawful.{names-single, names-attribute, names-none, named-fits}
 use Rattle.commands.specs.Expansion.{ways}
 use Rattle.commands.specs.declared.Ways.{Ways}
 use Rattle.commands.specs.declared.Ways.the-variants.{Pair, Pairs, Direct, Turns, Nowhere}
@@ -53,19 +56,25 @@ CR-steady n i v = refl
 false-true : false ≡ true → ⊥
 false-true h = let z : _≡_ {A = ℕ} 0 1 = cc in omega arith
 
+-- an index that a step may name is kept as it is
+selected : (group i : ℕ) → names group i ≡ true → (y : Indexes) → indexOf (groupAt group) (withIndex (groupAt group) y i) ≡ i
+selected group i h y = index-same (groupAt group) y i ∙ fits-kept (groupAt group) i (named-fits group i h)
+
 -- the nine groups, each by its number
 pub leads : (b : Bool) (group i : ℕ) → names group i ≡ true → Leads b (groupAt group) i (ways group)
-unfolding target ports ways groupAt
-leads true zero i h = ((refl, refl, refl), (refl, refl, refl), CR-steady, λ z. refl)
-leads false zero i h = ((refl, refl, refl), (refl, refl, refl), CR-steady, λ z. refl)
-leads b (suc zero) i h = ((refl, refl, refl), λ y. refl)
-leads b (suc (suc zero)) i h = ((refl, refl, refl), λ y. refl)
-leads b (suc (suc (suc zero))) i h = ((refl, refl, refl), λ y. refl)
-leads b (suc (suc (suc (suc zero)))) i h = ((refl, refl, refl), λ y. refl)
-leads b (suc (suc (suc (suc (suc zero))))) i h = ((refl, refl, refl), λ y. refl)
+unfolding target ports ways groupAt indexKept
+leads true zero i h = ((refl, refl, refl), (refl, refl, refl), CR-steady, selected 0 i h)
+leads false zero i h = ((refl, refl, refl), (refl, refl, refl), CR-steady, selected 0 i h)
+leads b (suc zero) i h = ((refl, refl, refl), selected 1 i h)
+leads b (suc (suc zero)) i h = ((refl, refl, refl), selected 2 i h)
+leads b (suc (suc (suc zero))) i h = ((refl, refl, refl), selected 3 i h)
+leads b (suc (suc (suc (suc zero)))) i h = ((refl, refl, refl), selected 4 i h)
+leads b (suc (suc (suc (suc (suc zero))))) i h = ((refl, refl, refl), selected 5 i h)
 leads b (suc (suc (suc (suc (suc (suc zero)))))) i h = (refl, refl, λ y. sym (eqb-true i 0 (sym (names-single 6 i (omega arith) (omega arith)) ∙ h)))
 leads b (suc (suc (suc (suc (suc (suc (suc zero))))))) i h = (refl, refl, λ y. sym (eqb-true i 0 (sym (names-single 7 i (omega arith) (omega arith)) ∙ h)))
-leads b (suc (suc (suc (suc (suc (suc (suc (suc zero)))))))) i h = let fits = ltb-true i 0x15 h in (refl, refl, refl, refl, omega arith)
+leads b (suc (suc (suc (suc (suc (suc (suc (suc zero)))))))) i h =
+    let low : i < 0x15 = ltb-true i 0x15 (sym (names-attribute i) ∙ h) in
+    (refl, refl, refl, refl, omega arith)
 leads b (suc (suc (suc (suc (suc (suc (suc (suc (suc group))))))))) i h =
     absurd (false-true (sym (names-none (suc (suc (suc (suc (suc (suc (suc (suc (suc group))))))))) i (omega arith)) ∙ h))
 

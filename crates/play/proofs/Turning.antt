@@ -9,6 +9,7 @@ use mathlib.Core.Path.{_≡_, refl, _∙_, ap}
 use mathlib.Core.List.{List, [], _∷_}
 use lib.Bits.{bitAnd, bitOr, and-zero-r, or-zero-l, and-block, and-shifted, and-comm, or-shifted}
 use Rattle.lists.specs.Bits.{isSet}
+use Rattle.registers.specs.Indexes.{indexKept}
 use Rattle.registers.specs.declared.Group.the-variants.{Ar}
 use Rattle.ports.specs.Ports.{ports, target}
 use Rattle.ports.specs.declared.Target.the-variants.{Data, Attribute, Status}
@@ -39,9 +40,10 @@ kept-picture : (lit : Bool) (i : ℕ) → i < 32 → isSet 5 (cond lit 0x20 0x00
 kept-picture true i h = let e : (0x20 + i) / 32 % 2 ≡ 1 = omega arith in rw e
 kept-picture false i h = let e : (0x00 + i) / 32 % 2 ≡ 0 = omega arith in rw e
 
-kept-low : (lit : Bool) (i : ℕ) → i < 32 → (cond lit 0x20 0x00 + i) % 32 ≡ i
-kept-low true i h = omega arith
-kept-low false i h = omega arith
+kept-low : (lit : Bool) (i : ℕ) → indexKept Ar (cond lit 0x20 0x00 + i) ≡ indexKept Ar i
+unfolding indexKept
+kept-low true i = omega arith
+kept-low false i = omega arith
 
 -- ---- one command at the head of a list
 module _ (n : Named) (x : Indexes) (l : Loading) (a : ℕ) (rs : List CommandRead) (free : portsOpen n ≡ true) (b : Bool) (picks : colour n ≡ b) (p : ℕ) where
@@ -82,15 +84,16 @@ module _ (n : Named) (free : portsOpen n ≡ true) where
   module _ (b : Bool) (picks : colour n ≡ b) (p : ℕ) (writes : target b true p ≡ Attribute) (i : ℕ) (fits : i < 32) where
     -- the index is written, and the picture stays
     pub aims : target b false p ≡ Attribute → Sends Any n (turned p i) n (AtData i)
+    unfolding indexKept
     aims reads = record {
       runs = λ x l a _. (
         withTurn (withIndex Ar x i) true,
         l,
         cond (n .picture) 0x20 0x00 + i,
         both-read b picks x l a _ ∙ see-index n (withTurn x false) l _ _ free b picks p reads ∙ merged _ _ 0x20 i _
-            ∙ ap (λ (v : ℕ). carry (join n (withTurn x false) l) v (Known (OutAcc p) ∷ [])) (keep-bit (n .picture) (x .ar % 32) i (omega arith) fits)
+            ∙ ap (λ (v : ℕ). carry (join n (withTurn x false) l) v (Known (OutAcc p) ∷ [])) (keep-bit (n .picture) (indexOf Ar x) i (omega arith) fits)
             ∙ aim-acc n (withTurn x false) l _ [] free b picks p writes refl
-            ∙ rw (kept-picture (n .picture) i fits, kept-low (n .picture) i fits) (ended _ _),
+            ∙ rw (kept-picture (n .picture) i fits, kept-low (n .picture) i) (ended _ _),
         (omega arith, refl),
       );
     }

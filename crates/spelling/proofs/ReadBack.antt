@@ -2,8 +2,8 @@
 -- them capitals already, so a word grows by each of them; a byte's two digits read back as the byte, and a name as its group and index.
 use Prim.Native.Nat.{ℕ, _+_, _*_, _/_, _%_, _≤_, _<_}
 use native.Mathlib.Omega.{arith}
-use mathlib.Core.Bool.{Bool, true, false, cond, _&&_, _||_, false≢true}
-use mathlib.Core.Path.{_≡_, refl, ap, _∙_}
+use mathlib.Core.Bool.{Bool, true, false, cond, _&&_, _||_}
+use mathlib.Core.Path.{_≡_, refl, sym, ap, _∙_}
 use mathlib.Core.List.{List, [], _∷_, _++_, append-assoc}
 use lib.Dec.{ltb, leb, eqb}
 use lib.ListN.{set, replicate}
@@ -18,6 +18,7 @@ use Rattle.words.specs.Words.{none, grown, ended, taken, takenAll, wordsOf}
 use Rattle.words.specs.Hex.{digitValue, isByte, byteOf}
 use Rattle.words.proofs.WordLaws.{Character, plain-character, packed, reading, word-taken}
 use Rattle.steps.specs.Step.{names, legal, bytesOf}
+use Rattle.steps.proofs.Lawful.{names-single, named-group}
 use Rattle.steps.specs.declared.Step.{Step}
 use Rattle.steps.specs.declared.Step.the-variants.{Set, Field, Colour}
 use Rattle.spelling.specs.Written.{letter, nameText, byteText, stepText}
@@ -134,19 +135,10 @@ module _ (n : ℕ) (a : List ℕ) (g i : ℕ) (group : g < 9) (r : List ℕ) whe
       go false true = refl
       go false false = indexed-taken
 
--- what `names` says: a group that there is, and index 0 for the two that have no index
+-- a name that a step may have: MSR and PALMASK have the index 0
 module _ (g i : ℕ) (named : names g i ≡ true) where
-  pub named-group : (g < 9) × (6 ≤ g → g < 8 → i ≡ 0)
-  named-group = go (ltb g 6) refl (ltb g 8) refl (eqb i 0) refl (eqb g 8) refl (ltb i 0x15) named
-    where
-      go : (a : Bool) → ltb g 6 ≡ a → (b : Bool) → ltb g 8 ≡ b → (c : Bool) → eqb i 0 ≡ c → (d : Bool) → eqb g 8 ≡ d → (x : Bool)
-          → (a || (b && c) || (d && x)) ≡ true → (g < 9) × (6 ≤ g → g < 8 → i ≡ 0)
-      go true e b f c h d k x t = let less : g < 6 = ltb-true _ _ e in (omega arith, λ lo hi. absurd (omega (arith, lo)))
-      go false e true f true h d k x t = let less : g < 8 = ltb-true _ _ f in (omega arith, λ lo hi. eqb-true _ _ h)
-      go false e true f false h true k x t = let less : g < 8 = ltb-true _ _ f in let is : g ≡ 8 = eqb-true _ _ k in absurd (omega arith)
-      go false e true f false h false k x t = absurd (false≢true t)
-      go false e false f c h true k x t = let is : g ≡ 8 = eqb-true _ _ k in (omega arith, λ lo hi. absurd (omega (arith, hi)))
-      go false e false f c h false k x t = absurd (false≢true t)
+  no-index : 6 ≤ g → g < 8 → i ≡ 0
+  no-index low high = eqb-true _ _ (sym (names-single g i low high) ∙ named)
 
   name-reads : i < 256 → nameOf (nameWord g i) ≡ Of g i
   unfolding nameOf indexed
@@ -156,14 +148,14 @@ module _ (g i : ℕ) (named : names g i ≡ true) where
           → nameOf (cond x 0x4D5352 (cond y 0x50414C4D41534B (65536 * (256 * letter g + 0x52) + pair i))) ≡ Of g i
       go true e y f =
           let is : g ≡ 6 = eqb-true _ _ e in
-          let none : i ≡ 0 = named-group .1 (omega arith) (omega arith) in
+          let none : i ≡ 0 = no-index (omega arith) (omega arith) in
           rw (is, none)
       go false e true f =
           let is : g ≡ 7 = eqb-true _ _ f in
-          let none : i ≡ 0 = named-group .1 (omega arith) (omega arith) in
+          let none : i ≡ 0 = no-index (omega arith) (omega arith) in
           rw (is, none)
       go false e false f =
-          let l = letter-range g (named-group .0) in
+          let l = letter-range g (named-group g i named) in
           let p = pair-range i in
           let reads = pair-reads i byte in
           let ls : ℕ = 256 * letter g + 0x52 in
@@ -172,7 +164,7 @@ module _ (g i : ℕ) (named : names g i ≡ true) where
           let k : w ≡ 0x50414C4D41534B → ⊥ = λ z. omega (arith, z, l .1, p .1) in
           let high : w / 65536 ≡ ls = omega (arith, p .1) in
           let low : w % 65536 ≡ pair i = omega (arith, p .1) in
-          rw (ne-eqb w 0x4D5352 m, ne-eqb w 0x50414C4D41534B k, high, low, reads .0, reads .1, group-reads g (named-group .0) e f, lt-ltb g 9 (named-group .0))
+          rw (ne-eqb w 0x4D5352 m, ne-eqb w 0x50414C4D41534B k, high, low, reads .0, reads .1, group-reads g (named-group g i named) e f, lt-ltb g 9 (named-group g i named))
 
 -- ---- a step
 some-pair : (v : ℕ) → pair v ≡ 0 → ⊥
@@ -224,15 +216,13 @@ words-colour e r g b =
 pub reads-back : (s : Step) → legal s ≡ true → Bytes (bytesOf s) → lineOf (stepText s) ≡ Is s
 unfolding lineOf stepText said stepOf setOf fieldOf colourOf legal bytesOf
 reads-back (Set g i v) ok bytes =
-    let n = named-group g i ok in
     let p = pair-reads v (bytes 3) in
-    ap said (words-set g i (n .0) v) ∙ rw (name-reads g i ok (bytes 2), p .0, p .1)
+    ap said (words-set g i (named-group g i ok) v) ∙ rw (name-reads g i ok (bytes 2), p .0, p .1)
 reads-back (Field g i v m) ok bytes =
     let t = and-both _ _ ok in
-    let n = named-group g i (t .0) in
     let p = pair-reads v (bytes 3) in
     let q = pair-reads m (bytes 4) in
-    ap said (words-field g i (n .0) v m) ∙ rw (name-reads g i (t .0) (bytes 2), p .0, p .1, q .0, q .1)
+    ap said (words-field g i (named-group g i (t .0)) v m) ∙ rw (name-reads g i (t .0) (bytes 2), p .0, p .1, q .0, q .1)
 reads-back (Colour e r g b) ok bytes =
     let p = pair-reads e (bytes 1) in
     let q = pair-reads r (bytes 2) in

@@ -8,10 +8,13 @@ use lib.Dec.{eqb}
 use lib.ListN.{getD, set, length, length-set}
 use lib.Seq.{getD-set-same, getD-set-other}
 use native.Mathlib.Omega.{arith}
+use Rattle.lists.specs.Bits.{isSet}
+use Rattle.registers.specs.Indexes.{indexKept}
 use Rattle.registers.specs.declared.Group.{Group}
 use Rattle.registers.specs.declared.Group.the-variants.{Cr, Sr, Gr, Xr, Fr, Mr, Msr, Palmask, Ar}
 use Rattle.chip.specs.State.{named, join, withNamed, withIndexes, withLoading, withPicture, withTurn}
 use Rattle.chip.specs.Names.{replaced}
+use Rattle.chip.specs.Attribute.{attributeAimed}
 use Rattle.chip.specs.Palette.{rgb, entry, withPalette, component}
 use Rattle.chip.specs.declared.Chip.{Chip}
 use Rattle.state.specs.Layout.{whole, cell, view, spare, placeOf, thirdOf, Holds}
@@ -92,6 +95,14 @@ turned bit h k = record {
   chip = k .chip ∙ ap (λ (d : Chip). withIndexes d (withTurn (d .indexes) bit)) (h .chip);
   spare = k .spare ∙ h .spare;
 }
+
+-- the attribute index is written: what is kept of it and the picture, and then the turn
+pub then-aimed : {l m : List ℕ} {c : Chip} {b r w : ℕ} (v : ℕ) → Holds l c b → r ≡ indexKept Ar v
+    → w ≡ getD (set l 2568 r) 2573 0 / 8 * 8 + getD (set l 2568 r) 2573 0 % 4 + 4 * cond (isSet 5 v) 1 0
+    → Holds m (withIndexes (view (set (set l 2568 r) 2573 w)) (withTurn (view (set (set l 2568 r) 2573 w) .indexes) true)) (spare (set (set l 2568 r) 2573 w))
+    → Holds m (attributeAimed c v) b
+then-aimed {r = r} v h kept lit turn =
+    now-holds (turned true (then-picture (isSet 5 v) (then-single 8 r h (omega arith)) lit) turn) (rw kept)
 
 pub place-below : (g : Group) (i : ℕ) → i < 256 → placeOf g i < 2573
 unfolding placeOf

@@ -1,10 +1,10 @@
 // Port reads and writes on lent bytes, in place. Document 01, "Ports" and numbers 0, 1 and 2, and document 02, P1,
-// for the attribute registers. The text is that of crate `chip`'s methods, each callee working on the bytes. A
-// refused access changes no byte.
+// for the attribute registers, and P5, for the bits of an index. The text is that of crate `chip`'s methods, each
+// callee working on the bytes. A refused access changes no byte.
 ghost use mathlib.Core.Path.{_≡_};
 ghost use Prim.Native.Nat.{_/_, _%_};
 ghost use lib.ListN.{length};
-ghost use Rattle.chip.specs.State.{withIndexes, indexOf, withIndex};
+ghost use Rattle.chip.specs.State.{withIndexes, indexByte, indexOf, withIndex};
 ghost use Rattle.chip.specs.Access.{portWritten, portRead};
 ghost use Rattle.state.specs.Layout.{whole, view, spare, Holds};
 ghost use Rattle.state.specs.Accesses.{Left, writeAnswer, readAnswer, WroteIn, ReadIn};
@@ -25,6 +25,7 @@ use chip::access::Answer;
 use ports::Target;
 use ports::leads_to;
 use registers::Group;
+use registers::index_kept;
 
 // How many bytes a state has.
 pub const STATE: usize = 2574;
@@ -66,10 +67,10 @@ fn answer_of(n: u8) -> Answer
     }
 }
 
-// A group's index; MSR and PALMASK have none, and stand at 0. Of the attribute index these are the low five bits.
-fn index(state: &[u8], g: Group) -> u8
+// The byte that holds a group's index; MSR and PALMASK have none, and stand at 0.
+fn index_byte(state: &[u8], g: Group) -> u8
     requires { ⌜ length (now state) ≡ whole ⌝ }
-    ensures { λ r. ⌜ r ≡ indexOf g (view (now (state .entry)) .indexes) ⌝ }
+    ensures { λ r. ⌜ r ≡ indexByte g (view (now (state .entry)) .indexes) ⌝ }
 {
     match g {
         Group::Cr => state[2562],
@@ -80,25 +81,34 @@ fn index(state: &[u8], g: Group) -> u8
         Group::Mr => state[2567],
         Group::Msr => 0x00,
         Group::Palmask => 0x00,
-        Group::Ar => state[2568] % 32,
+        Group::Ar => state[2568],
     }
 }
 
-// A group's index is written.
+// A group's index: the bits that its index register has.
+fn index(state: &[u8], g: Group) -> u8
+    requires { ⌜ length (now state) ≡ whole ⌝ }
+    ensures { λ r. ⌜ r ≡ indexOf g (view (now (state .entry)) .indexes) ⌝ }
+{
+    index_kept(g, index_byte(state, g))
+}
+
+// A group's index is written: it keeps the bits that its index register has.
 fn set_index(state: &mut [u8], g: Group, v: u8)
     requires { ⌜ length (now state) ≡ whole ⌝ }
     ensures { λ _. ⌜ Holds (now (state .exit)) (withIndexes (view (now (state .entry))) (withIndex g (view (now (state .entry)) .indexes) v)) (spare (now (state .entry))) ⌝ }
 {
+    let kept = index_kept(g, v);
     match g {
-        Group::Cr => state[2562] = v,
-        Group::Sr => state[2563] = v,
-        Group::Gr => state[2564] = v,
-        Group::Xr => state[2565] = v,
-        Group::Fr => state[2566] = v,
-        Group::Mr => state[2567] = v,
+        Group::Cr => state[2562] = kept,
+        Group::Sr => state[2563] = kept,
+        Group::Gr => state[2564] = kept,
+        Group::Xr => state[2565] = kept,
+        Group::Fr => state[2566] = kept,
+        Group::Mr => state[2567] = kept,
         Group::Msr => {}
         Group::Palmask => {}
-        Group::Ar => state[2568] = v,
+        Group::Ar => state[2568] = kept,
     }
 }
 

@@ -17,6 +17,7 @@ ghost use Rattle.chip.specs.Attribute.{attributeIndex, attributeAimed, attribut
 ghost use Rattle.state.specs.Layout.{start, whole, view, spare, regionOf, slotOf, placeOf, thirdOf, Holds};
 use masks::writable;
 use registers::Group;
+use registers::index_kept;
 use registers::locked_by;
 use registers::under_lock;
 use registers::write;
@@ -265,7 +266,7 @@ fn attribute_index(state: &[u8]) -> u8
     requires { ⌜ length (now state) ≡ whole ⌝ }
     ensures { λ r. ⌜ r ≡ attributeIndex (view (now (state .entry))) ⌝ }
 {
-    let low = state[2568] % 32;
+    let low = index_kept(Group::Ar, state[2568]);
     if state[2573] / 4 % 2 == 1 {
         low + 0x20
     } else {
@@ -287,7 +288,7 @@ fn aim_attribute(state: &mut [u8], v: u8)
     requires { ⌜ length (now state) ≡ whole ⌝ }
     ensures { λ _. ⌜ Holds (now (state .exit)) (attributeAimed (view (now (state .entry))) v) (spare (now (state .entry))) ⌝ }
 {
-    state[2568] = v % 32;
+    state[2568] = index_kept(Group::Ar, v);
     let old = state[2573];
     state[2573] = with_picture(old, v / 32 % 2 == 1);
     set_turn(state, true);
@@ -298,7 +299,7 @@ fn set_attribute(state: &mut [u8], v: u8)
     requires { ⌜ length (now state) ≡ whole ⌝ }
     ensures { λ _. ⌜ Holds (now (state .exit)) (attributeSet (view (now (state .entry))) v) (spare (now (state .entry))) ⌝ }
 {
-    let i = state[2568] % 32;
+    let i = index_kept(Group::Ar, state[2568]);
     put(state, Group::Ar, i, v);
     set_turn(state, false);
 }

@@ -1,7 +1,7 @@
--- The register, then the turn.
+-- The register at what is kept of the index, then the turn.
 use mathlib.Core.Bool.{false}
 use Rattle.state.specs.Layout.{view, cell}
-use Rattle.state.proofs.Holding.{turned}
+use Rattle.state.proofs.Holding.{now-holds, turned}
 use borrow.Author.Needs.{needs}
 use Rattle.state.proofs.set_attribute.Statement.{statement}
 use Rattle.state.proofs.set_attribute.Tie as tie
@@ -14,5 +14,6 @@ set-attribute-spec =
     (λ c. search needs)
     (λ c κs. search needs)
     (λ c κs. search needs)
+    (λ c κs. search needs)
     (λ c. search needs)
-    (λ c. turned false (c .before .before .before .before .before .before .put .ensures) (c .before .before .set-turn .ensures)))
+    (λ c. now-holds (turned false (c .before .before .before .before .before .before .put .ensures) (c .before .before .set-turn .ensures)) (rw (c .before .before .before .before .before .before .before .before .index-kept .ensures))))

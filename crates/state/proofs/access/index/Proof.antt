@@ -1,36 +1,12 @@
--- By the group.
-use Rattle.state.specs.Layout.{view, cell}
+-- What is kept of the byte.
 use borrow.Author.Needs.{needs}
 use Rattle.state.proofs.access.index.Statement.{statement}
 use Rattle.state.proofs.access.index.Tie as tie
 
 pub index-spec : {M : Type 1} → statement M
-unfolding view cell
 index-spec =
     tie.close
     (tie.spec
-    (λ c. search needs)
-    (λ c. search needs)
-    (λ c. search needs)
-    (λ c. search needs)
-    (λ c. search needs)
-    (λ c. search needs)
-    (λ c. search needs)
-    (λ c. search needs)
-    (λ c. search needs)
-    (λ c. search needs)
-    (λ c. search needs)
-    (λ c. search needs)
-    (λ c. search needs)
-    (λ c. search needs)
-    (λ c. search needs)
-    (λ c. search needs)
-    (λ c. rw (c .before .enum-told .given .1))
-    (λ c. rw (c .before .enum-told2 .given .1))
-    (λ c. rw (c .before .enum-told3 .given .1))
-    (λ c. rw (c .before .enum-told4 .given .1))
-    (λ c. rw (c .before .enum-told5 .given .1))
-    (λ c. rw (c .before .enum-told6 .given .1))
-    (λ c. search needs)
-    (λ c. search needs)
-    (λ c. rw (c .before .enum-told9 .given .1)))
+    (λ c κs. search needs)
+    (λ c κs. search needs)
+    (λ c. rw (c .index-kept .ensures, c .before .index-byte .ensures)))
