@@ -93,7 +93,7 @@ __attribute__((noinline)) static uint8_t port_write(struct chip *c, uint16_t por
         c->turn = !c->turn;
         return 0;
     case 0x3C2: store(&c->msr, v, 0xEF); return 0;
-    case 0x3C4: c->sr_index = v; return 0;
+    case 0x3C4: c->sr_index = v & 0x07; return 0;
     case 0x3C5: store(&c->sr[c->sr_index], v, writable[SR][c->sr_index]); return 0;
     case 0x3C6: c->palmask = v; return 0;
     case 0x3C7:
@@ -113,7 +113,7 @@ __attribute__((noinline)) static uint8_t port_write(struct chip *c, uint16_t por
         }
         move_on(c);
         return 0;
-    case 0x3CE: c->gr_index = v; return 0;
+    case 0x3CE: c->gr_index = v & 0x0F; return 0;
     case 0x3CF: store(&c->gr[c->gr_index], v, writable[GR][c->gr_index]); return 0;
     case 0x3D0: c->fr_index = v; return 0;
     case 0x3D1: store(&c->fr[c->fr_index], v, writable[FR][c->fr_index]); return 0;

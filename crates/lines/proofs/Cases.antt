@@ -6,7 +6,8 @@ use lib.ListN.{replicate}
 use Rattle.lists.specs.Scan.{firstNot, every}
 use Rattle.registers.specs.Extension.{XR}
 use Rattle.registers.specs.Groups.{groupAt, rowOf}
-use Rattle.steps.specs.Step.{legal, idle, judged, shaped, stepOf}
+use Rattle.registers.specs.Indexes.{fits}
+use Rattle.steps.specs.Step.{names, legal, idle, judged, shaped, stepOf}
 use Rattle.steps.specs.declared.Step.the-variants.{Field}
 use Rattle.script.specs.Block.{wordSum, contentLegal, blockLegal}
 use Rattle.script.specs.File.{stepCount, stepsChecked, checked}
@@ -35,17 +36,17 @@ pub case-13 : text file-13 32256
     ≡ (0x73 ∷ 0x74 ∷ 0x65 ∷ 0x70 ∷ 0x73 ∷ 0x20 ∷ 0x31 ∷ 0x20 ∷ 0x63 ∷ 0x6F ∷ 0x6D ∷ 0x6D ∷ 0x61 ∷ 0x6E ∷ 0x64 ∷ 0x73 ∷ 0x20 ∷ 0x32 ∷ 0x0A ∷ [])
     ++ (0x4F ∷ 0x55 ∷ 0x54 ∷ 0x20 ∷ 0x33 ∷ 0x44 ∷ 0x36 ∷ 0x20 ∷ 0x36 ∷ 0x30 ∷ 0x0A ∷ [])
     ++ (0x4F ∷ 0x55 ∷ 0x54 ∷ 0x20 ∷ 0x33 ∷ 0x44 ∷ 0x37 ∷ 0x20 ∷ 0x34 ∷ 0x33 ∷ 0x0A ∷ [])
-unfolding text translated checked stepsChecked blockLegal contentLegal wordSum firstNot every stepCount stepOf shaped judged legal idle groupAt rowOf XR nextOf stepsTo commandsOf expanded ways linesOf decimalIn
+unfolding text translated checked stepsChecked blockLegal contentLegal wordSum firstNot every stepCount stepOf shaped judged names legal fits idle groupAt rowOf XR nextOf stepsTo commandsOf expanded ways linesOf decimalIn
 case-13 = refl
 
 -- the same file with its check one off: `refused 6`
 pub case-13-damaged : text ((0 ∷ 0 ∷ 1 ∷ 1 ∷ 0 ∷ 0 ∷ 1 ∷ 3 ∷ 0x60 ∷ 0x43 ∷ 0 ∷ 0 ∷ []) ++ replicate 498 0 ++ (0xA0 ∷ 0xB8 ∷ [])) 32256
     ≡ 0x72 ∷ 0x65 ∷ 0x66 ∷ 0x75 ∷ 0x73 ∷ 0x65 ∷ 0x64 ∷ 0x20 ∷ 0x36 ∷ 0x0A ∷ []
-unfolding text translated checked blockLegal contentLegal wordSum firstNot every stepCount stepOf shaped legal nextOf stepsTo commandsOf expanded ways linesOf decimalIn
+unfolding text translated checked blockLegal contentLegal wordSum firstNot every stepCount stepOf shaped names legal fits nextOf stepsTo commandsOf expanded ways linesOf decimalIn
 case-13-damaged = refl
 
 -- the same with XR70 for XR60, as a volunteer typed (document 02, P2), and its check right: `refused 11`
 pub case-XR70 : text ((0 ∷ 0 ∷ 1 ∷ 1 ∷ 0 ∷ 0 ∷ 1 ∷ 3 ∷ 0x70 ∷ 0x43 ∷ 0 ∷ 0 ∷ []) ++ replicate 498 0 ++ (0x8F ∷ 0xB8 ∷ [])) 32256
     ≡ 0x72 ∷ 0x65 ∷ 0x66 ∷ 0x75 ∷ 0x73 ∷ 0x65 ∷ 0x64 ∷ 0x20 ∷ 0x31 ∷ 0x31 ∷ 0x0A ∷ []
-unfolding text translated checked stepsChecked blockLegal contentLegal wordSum firstNot every stepCount stepOf shaped judged legal idle groupAt rowOf XR nextOf stepsTo commandsOf expanded ways linesOf decimalIn
+unfolding text translated checked stepsChecked blockLegal contentLegal wordSum firstNot every stepCount stepOf shaped judged names legal fits idle groupAt rowOf XR nextOf stepsTo commandsOf expanded ways linesOf decimalIn
 case-XR70 = refl

@@ -6,7 +6,9 @@ use Rattle.registers.specs.Attribute.{AR}
 use Rattle.registers.specs.Extension.{XR}
 use Rattle.registers.specs.Multimedia.{MR}
 use Rattle.registers.specs.Sequencer.{SR}
+use Rattle.registers.specs.Graphics.{GR}
 use Rattle.registers.specs.Groups.{groupAt, rowOf}
+use Rattle.registers.specs.Indexes.{indexKept, fits}
 use Rattle.registers.specs.WriteRule.{lockedBy, leftOpen, writableNow, written}
 use Rattle.ports.specs.Ports.{ports, target}
 use Rattle.chip.specs.Names.{locked, received, portsOpen, colour, eightBit}
@@ -17,7 +19,7 @@ use Rattle.raster.specs.Raster.{number, raster, usesSource, usesPattern}
 use Rattle.blit.specs.Transfer.{byteDone, inTurn, lineDone, linesDone, inRange, inMemory, transferred}
 use Rattle.lists.specs.Scan.{firstNot, every}
 use Rattle.lists.specs.Tab.{tab}
-use Rattle.steps.specs.Step.{legal, idle, judged, shaped, stepOf, bytesOf}
+use Rattle.steps.specs.Step.{names, legal, idle, judged, shaped, stepOf, bytesOf}
 use Rattle.script.specs.Block.{wordSum}
 use Rattle.script.specs.File.{stepsChecked}
 use Rattle.writer.specs.Write.{front, blocksTo, written as fileWritten}
@@ -26,5 +28,5 @@ use Rattle.commands.specs.Expansion.{ways, expanded}
 use Rattle.setups.specs.Setups.{setups, allHold}
 
 pub setups-hold : allHold setups ≡ true
-unfolding setups CR AR XR MR SR groupAt rowOf lockedBy leftOpen writableNow written ports target locked received portsOpen colour eightBit coloured loaded shown portWritten portRead resetByte filled reset number raster usesSource usesPattern byteDone inTurn lineDone linesDone inRange inMemory transferred firstNot every tab legal idle judged shaped stepOf bytesOf wordSum stepsChecked front blocksTo fileWritten bytesOfAll ways expanded
+unfolding setups CR SR GR XR MR AR indexKept groupAt rowOf lockedBy leftOpen writableNow written ports target locked received portsOpen colour eightBit coloured loaded shown portWritten portRead resetByte filled reset number raster usesSource usesPattern byteDone inTurn lineDone linesDone inRange inMemory transferred firstNot every tab names legal fits idle judged shaped stepOf bytesOf wordSum stepsChecked front blocksTo fileWritten bytesOfAll ways expanded
 setups-hold = refl

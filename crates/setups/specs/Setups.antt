@@ -7,7 +7,7 @@ use mathlib.Core.List.{List, [], _∷_, _++_}
 use lib.Dec.{eqb}
 use lib.ListN.{length, take, replicate}
 use Rattle.registers.specs.declared.Group.{Group}
-use Rattle.registers.specs.declared.Group.the-variants.{Cr, Xr, Ar}
+use Rattle.registers.specs.declared.Group.the-variants.{Cr, Sr, Gr, Xr, Ar}
 use Rattle.chip.specs.State.{named}
 use Rattle.chip.specs.Names.{register}
 use Rattle.chip.specs.Palette.{entry, shown}
@@ -188,6 +188,19 @@ setups =
     ∷ chip 0x02 0x00
     (gets 0x3D6 0x70 ∷ gets 0x3D7 0xFF ∷ reads 0x3D7 0x03
     ∷ gets 0x3C4 0x05 ∷ gets 0x3C5 0xFF ∷ reads 0x3C5 0x00 ∷ [])
+    -- P5.1. 3C4h gets 0Ah and reads 02h, and 0Fh to 3C5h goes to SR02. 3CEh gets 18h and reads 08h, and A5h to 3CFh goes to GR08.
+    ∷ chip 0x02 0x00
+    (gets 0x3C4 0x0A ∷ reads 0x3C4 0x02 ∷ gets 0x3C5 0x0F ∷ is Sr 0x02 0x0F
+    ∷ gets 0x3CE 0x18 ∷ reads 0x3CE 0x08 ∷ gets 0x3CF 0xA5 ∷ is Gr 0x08 0xA5 ∷ [])
+    -- P5.2. 3B4h, 3D6h, 3D0h and 3D2h get FFh and read FFh; 3C4h reads 07h then, 3CEh 0Fh, and 3C0h 3Fh.
+    ∷ chip 0x02 0x00
+    (gets 0x3B4 0xFF ∷ gets 0x3D6 0xFF ∷ gets 0x3D0 0xFF ∷ gets 0x3D2 0xFF ∷ gets 0x3C4 0xFF ∷ gets 0x3CE 0xFF ∷ gets 0x3C0 0xFF
+    ∷ reads 0x3B4 0xFF ∷ reads 0x3D6 0xFF ∷ reads 0x3D0 0xFF ∷ reads 0x3D2 0xFF ∷ reads 0x3C4 0x07 ∷ reads 0x3CE 0x0F ∷ reads 0x3C0 0x3F ∷ [])
+    -- P5.3. SET SR0A 0Fh: 7, step 0; SET SR05 00h, SET SR0A 0Fh: 11, step 0. FIELD GR10, mask 00h: 7. SET SR07 FFh, SET GR08 FFh: one block.
+    ∷ answers (Set 1 0x0A 0x0F ∷ []) 7 0
+    ∷ answers (Set 1 0x05 0x00 ∷ Set 1 0x0A 0x0F ∷ []) 11 0
+    ∷ answers (Field 2 0x10 0x00 0x00 ∷ []) 7 0
+    ∷ answers (Set 1 0x07 0xFF ∷ Set 2 0x08 0xFF ∷ []) 0 1
     ∷ []
 
 abbrev pub allHold : List Row → Bool

@@ -407,6 +407,52 @@ fn case_p2_4() -> [u8; 16] {
     out
 }
 
+// P5.1. 3C4h gets 0Ah and 3C5h 0Fh, 3CEh gets 18h and 3CFh A5h: what the index ports read, SR02 and GR08.
+fn case_p5_1() -> [u8; 16] {
+    let a = after(after(Chip::new(0x02, 0x00), 0x3C4, 0x0A), 0x3C5, 0x0F);
+    let b = after(after(a, 0x3CE, 0x18), 0x3CF, 0xA5);
+    let mut out = [0u8; 16];
+    out[0] = seen(b, 0x3C4);
+    out[1] = b.get(Group::Sr, 0x02);
+    out[2] = seen(b, 0x3CE);
+    out[3] = b.get(Group::Gr, 0x08);
+    out
+}
+
+// P5.2. All seven index ports get FFh: what they read.
+fn case_p5_2() -> [u8; 16] {
+    let a = after(after(Chip::new(0x02, 0x00), 0x3B4, 0xFF), 0x3D6, 0xFF);
+    let b = after(after(a, 0x3D0, 0xFF), 0x3D2, 0xFF);
+    let c = after(after(after(b, 0x3C4, 0xFF), 0x3CE, 0xFF), 0x3C0, 0xFF);
+    let mut out = [0u8; 16];
+    out[0] = seen(c, 0x3B4);
+    out[1] = seen(c, 0x3D6);
+    out[2] = seen(c, 0x3D0);
+    out[3] = seen(c, 0x3D2);
+    out[4] = seen(c, 0x3C4);
+    out[5] = seen(c, 0x3CE);
+    out[6] = seen(c, 0x3C0);
+    out
+}
+
+// P5.3. SET SR0A 0Fh; SET SR05 00h, SET SR0A 0Fh; FIELD GR10, mask 00h; SET SR07 FFh, SET GR08 FFh.
+fn case_p5_3() -> [u8; 16] {
+    let a = answer(&[1, 1, 0x0A, 0x0F, 0, 0]);
+    let b = answer(&[1, 1, 0x05, 0x00, 0, 0, 1, 1, 0x0A, 0x0F, 0, 0]);
+    let c = answer(&[2, 2, 0x10, 0x00, 0x00, 0]);
+    let d = answer(&[1, 1, 0x07, 0xFF, 0, 0, 1, 2, 0x08, 0xFF, 0, 0]);
+    let mut out = [0u8; 16];
+    out[0] = a[0];
+    out[1] = a[1];
+    out[2] = b[0];
+    out[3] = b[1];
+    out[4] = c[0];
+    out[5] = c[1];
+    out[6] = d[0];
+    out[7] = d[1];
+    out
+}
+
 fn main() {
     report(
         1,
@@ -577,5 +623,23 @@ fn main() {
         4,
         case_p2_4(),
         [0, 0x03, 0, 0x00, 0, 0, 0, 0, 0, 0, 0, 0, 0, 0, 0, 0],
+    );
+    report_request(
+        5,
+        1,
+        case_p5_1(),
+        [0x02, 0x0F, 0x08, 0xA5, 0, 0, 0, 0, 0, 0, 0, 0, 0, 0, 0, 0],
+    );
+    report_request(
+        5,
+        2,
+        case_p5_2(),
+        [0xFF, 0xFF, 0xFF, 0xFF, 0x07, 0x0F, 0x3F, 0, 0, 0, 0, 0, 0, 0, 0, 0],
+    );
+    report_request(
+        5,
+        3,
+        case_p5_3(),
+        [7, 0, 11, 0, 7, 0, 0, 1, 0, 0, 0, 0, 0, 0, 0, 0],
     );
 }

@@ -7,7 +7,8 @@ use Rattle.lists.specs.Scan.{firstNot, every}
 use Rattle.lists.specs.Tab.{tab}
 use Rattle.registers.specs.Extension.{XR}
 use Rattle.registers.specs.Groups.{groupAt, rowOf}
-use Rattle.steps.specs.Step.{legal, idle, judged, bytesOf, shaped, stepOf}
+use Rattle.registers.specs.Indexes.{fits}
+use Rattle.steps.specs.Step.{names, legal, idle, judged, bytesOf, shaped, stepOf}
 use Rattle.steps.specs.declared.Step.the-variants.{Set}
 use Rattle.script.specs.Block.{word, wordSum, contentLegal, blockLegal}
 use Rattle.script.specs.File.{stepCount, stepsChecked, checked}
@@ -26,13 +27,13 @@ unfolding bytesOf blocksTo front tab wordSum
 case-13-check = refl
 
 pub case-13-written : written list-13 512 ≡ Blocks 1
-unfolding written stepsChecked firstNot stepOf shaped judged legal idle groupAt rowOf XR bytesOf
+unfolding written stepsChecked firstNot stepOf shaped judged names legal fits idle groupAt rowOf XR bytesOf
 case-13-written = refl
 
 pub case-13-checked : checked (fileOf list-13) ≡ Accepted 1
-unfolding checked stepsChecked blockLegal contentLegal firstNot every stepCount stepOf shaped judged legal idle groupAt rowOf XR bytesOf blocksTo front tab wordSum
+unfolding checked stepsChecked blockLegal contentLegal firstNot every stepCount stepOf shaped judged names legal fits idle groupAt rowOf XR bytesOf blocksTo front tab wordSum
 case-13-checked = refl
 
 pub case-13-read : nextOf (fileOf list-13) 0 ≡ Found (Set 3 0x60 0x43)
-unfolding nextOf stepCount stepOf shaped judged legal idle groupAt rowOf XR bytesOf blocksTo front tab wordSum
+unfolding nextOf stepCount stepOf shaped judged names legal fits idle groupAt rowOf XR bytesOf blocksTo front tab wordSum
 case-13-read = refl

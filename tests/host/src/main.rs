@@ -257,7 +257,7 @@ fn step(rows: &Rows, r: &mut Random) -> [u8; 6] {
 fn idle(rows: &Rows, r: &mut Random) -> [u8; 6] {
     let group = r.below(6) as u8;
     let mut index = r.byte();
-    while rows.writable(group as usize, index) != 0 {
+    while rows.writable(group as usize, index) != 0 || !script::is_name(group, index) {
         index = r.byte();
     }
     let listed = rows.read_only(group);
@@ -267,13 +267,16 @@ fn idle(rows: &Rows, r: &mut Random) -> [u8; 6] {
     step_on(r, group, index)
 }
 
-/// A step at the edge of what is accepted: AR14 is the last index, and AR the last group; a register without a writable bit, and the same with
+/// A step at the edge of what is accepted: AR14 is the last index, and AR the last group; SR07 and GR0F are the last that fit; a register without a writable bit, and the same with
 /// a value outside its mask.
 fn edge(rows: &Rows, r: &mut Random) -> [u8; 6] {
     let [_, group, index, ..] = idle(rows, r);
     match r.below(8) {
         0..=3 => {
-            let (group, index) = r.of(&[(8, 0x13), (8, 0x14), (8, 0x15), (8, 0x34), (9, 0x00), (9, 0x14)]);
+            let (group, index) = r.of(&[
+                (8, 0x13), (8, 0x14), (8, 0x15), (8, 0x34), (9, 0x00), (9, 0x14),
+                (1, 0x07), (1, 0x08), (1, 0x0A), (1, 0xFF), (2, 0x0F), (2, 0x10), (2, 0x18),
+            ]);
             step_on(r, group, index)
         }
         4 => [2, group, index, 0x81, 0x80, 0],
@@ -293,6 +296,7 @@ fn put_edge(rows: &Rows, r: &mut Random, block: &mut [u8]) {
 const GOOD: [u8; 6] = [1, 3, 0x60, 0x43, 0, 0];
 const XR70: [u8; 6] = [1, 3, 0x70, 0x43, 0, 0];
 const AR15: [u8; 6] = [1, 8, 0x15, 0x00, 0, 0];
+const SR0A: [u8; 6] = [1, 1, 0x0A, 0x0F, 0, 0];
 
 /// Lists of steps, each with the number that is due and the step that it names.
 fn cases() -> Vec<(Vec<[u8; 6]>, u8, usize)> {
@@ -306,10 +310,17 @@ fn cases() -> Vec<(Vec<[u8; 6]>, u8, usize)> {
         (vec![[1, 0, 0x19, 0x00, 0, 0]], 11, 0), // the first behind CR18
         (vec![[1, 0, 0x22, 0x00, 0, 0]], 11, 0),
         (vec![[1, 1, 0x05, 0x00, 0, 0]], 11, 0),
+        (vec![[1, 1, 0x06, 0x00, 0, 0]], 11, 0), // the last unlisted index of SR that fits
         (vec![[1, 2, 0x09, 0x00, 0, 0]], 11, 0),
+        (vec![[2, 2, 0x0F, 0x00, 0xFF, 0]], 11, 0), // of GR
         (vec![[1, 4, 0x00, 0xFF, 0, 0]], 11, 0),
         (vec![[1, 5, 0x21, 0xFF, 0, 0]], 11, 0),
         (vec![AR15], 7, 0),
+        (vec![SR0A], 7, 0),
+        (vec![[2, 1, 0x08, 0x00, 0x00, 0]], 7, 0),
+        (vec![[1, 1, 0xFF, 0x00, 0, 0]], 7, 0),
+        (vec![[1, 2, 0x10, 0x00, 0, 0]], 7, 0),
+        (vec![[2, 2, 0x18, 0x00, 0xFF, 0]], 7, 0),
         (vec![[1, 6, 0x01, 0x00, 0, 0]], 7, 0),
         (vec![[1, 9, 0x00, 0x00, 0, 0]], 7, 0),
         (vec![[2, 3, 0x70, 0x01, 0xFE, 0]], 7, 0), // a bit outside its mask, on a register without a writable bit
@@ -319,6 +330,8 @@ fn cases() -> Vec<(Vec<[u8; 6]>, u8, usize)> {
         (vec![[0, 3, 0x70, 0x43, 0, 0]], 7, 0),
         (vec![GOOD, XR70, AR15, GOOD], 11, 1), // the first of two reports
         (vec![GOOD, AR15, XR70, GOOD], 7, 1),
+        (vec![GOOD, SR0A, XR70], 7, 1),
+        (vec![GOOD, XR70, SR0A], 11, 1),
         ([good(84), vec![XR70, AR15]].concat(), 11, 84),
         ([good(83), vec![AR15, XR70]].concat(), 7, 83),
         ([good(1007), vec![XR70]].concat(), 11, 1007),
@@ -326,6 +339,7 @@ fn cases() -> Vec<(Vec<[u8; 6]>, u8, usize)> {
         (vec![[2, 3, 0x60, 0xBC, 0xBC, 0]], 0, 0), // none but bits that are not writable
         (vec![[2, 0, 0x11, 0x80, 0x80, 0], [1, 0, 0x00, 0x5F, 0, 0], [1, 0, 0x06, 0xFF, 0, 0]], 0, 0), // under protection
         (vec![[1, 8, 0x00, 0x3F, 0, 0], [1, 8, 0x14, 0x0F, 0, 0]], 0, 0),
+        (vec![[1, 1, 0x02, 0x0F, 0, 0], [1, 1, 0x07, 0xFF, 0, 0], [1, 2, 0x08, 0xFF, 0, 0]], 0, 0), // onto these SR0A and GR18 would fold
         (vec![[1, 6, 0x00, 0xE3, 0, 0], [1, 7, 0x00, 0x00, 0, 0]], 0, 0),
         (vec![[3, 0x70, 0x70, 0x70, 0x70, 0]], 0, 0),
     ]

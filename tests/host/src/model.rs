@@ -77,7 +77,7 @@ pub struct Chip {
     reading: bool,
     /// Port 3C0h takes data next.
     turn: bool,
-    /// Bit 5 of the attribute index; the table `indexes` has the low five.
+    /// Bit 5 of the attribute index; of the low five and of the others `indexes` has the byte.
     picture: bool,
     spare: u8,
 }
@@ -87,6 +87,9 @@ const XR: usize = 3;
 const MSR: usize = 6;
 const PALMASK: usize = 7;
 const AR: usize = 8;
+
+/// The bits that an index register keeps, by table: chapters 9 to 12 and 14 with document 02, P5; for FR and MR no chapter shows one.
+const INDEX_BITS: [u8; 7] = [0xFF, 0x07, 0x0F, 0xFF, 0xFF, 0xFF, 0x1F];
 
 /// The place of an indexed group's table and index: AR, group 8, comes after the six.
 fn table(g: usize) -> usize {
@@ -220,9 +223,13 @@ impl Chip {
         (0..8).map(|k| 1 << k).map(|bit| if mask & bit != 0 { v & bit } else { old & bit }).sum()
     }
 
-    /// What names a register of a group at its data port; of the attribute index, the low five bits.
+    /// What names a register of a group at its data port: any byte may stand there, of which other bits than those kept count for nothing.
     fn index_of(&self, g: usize) -> u8 {
-        if g == AR { self.indexes[table(AR)] & 0x1F } else { self.indexes[g] }
+        self.indexes[table(g)] & INDEX_BITS[table(g)]
+    }
+
+    fn set_index(&mut self, g: usize, v: u8) {
+        self.indexes[table(g)] = v & INDEX_BITS[table(g)];
     }
 
     /// The byte of a register, by name.
@@ -280,7 +287,7 @@ impl Chip {
         }
         let Some(p) = self.leads(port, true) else { return 1 };
         match p {
-            Port::Index(g) => self.indexes[g] = v,
+            Port::Index(g) => self.set_index(g, v),
             Port::Data(g) => self.put(rows, g, self.index_of(g), v),
             Port::Msr => self.put(rows, MSR, 0, v),
             Port::Palmask => self.put(rows, PALMASK, 0, v),
@@ -297,7 +304,7 @@ impl Chip {
                 if self.turn {
                     self.put(rows, AR, self.index_of(AR), v);
                 } else {
-                    self.indexes[table(AR)] = v & 0x1F;
+                    self.set_index(AR, v);
                     self.picture = v & 0x20 != 0;
                 }
                 self.turn = !self.turn;
@@ -314,7 +321,7 @@ impl Chip {
         }
         let Some(p) = self.leads(port, false) else { return (1, 0xFF) };
         let v = match p {
-            Port::Index(g) => self.indexes[g],
+            Port::Index(g) => self.index_of(g),
             Port::Data(g) => self.get(g, self.index_of(g)),
             Port::Msr => self.msr,
             Port::Palmask => self.palmask,

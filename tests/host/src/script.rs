@@ -1,12 +1,14 @@
-//! Scripts, written from documents 01 and 02 (P1, P2): a file checked, a list of steps written as a file, a file translated into commands.
+//! Scripts, written from documents 01 and 02 (P1, P2, P5): a file checked, a list of steps written as a file, a file translated into commands.
 //! Each answers a number and a value. The commands of group 8 are those of docs/DECISIONS.md, part 6.
 
 use crate::model::Rows;
 
-/// Whether a step may name the register.
-fn is_name(group: u8, index: u8) -> bool {
+/// Whether a step may name the register: the index of SR fits in three bits, that of GR in four.
+pub fn is_name(group: u8, index: u8) -> bool {
     match group {
-        0..=5 => true,
+        0 | 3..=5 => true,
+        1 => index < 8,
+        2 => index < 16,
         6 | 7 => index == 0,
         8 => index <= 0x14,
         _ => false,
