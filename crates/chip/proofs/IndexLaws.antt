@@ -13,7 +13,7 @@ use Rattle.registers.specs.declared.Group.{Group}
 use Rattle.registers.specs.declared.Group.the-variants.{Cr, Sr, Gr, Xr, Fr, Mr, Msr, Palmask, Ar}
 use Rattle.ports.specs.Ports.{target}
 use Rattle.ports.specs.declared.Target.the-variants.{Index, Data}
-use Rattle.chip.specs.State.{named, join, withIndexes, withTurn, indexByte, indexOf, withIndex}
+use Rattle.chip.specs.State.{named, join, withIndexes, withTurn, indexByte, withIndexByte, indexOf, withIndex}
 use Rattle.chip.specs.Names.{received, portsOpen, colour}
 use Rattle.chip.specs.Access.{portWritten, portRead, wrote, seen}
 use Rattle.chip.specs.declared.Chip.{Chip}
@@ -22,45 +22,39 @@ use Rattle.chip.specs.declared.access.Answer.the-variants.{Done}
 use Rattle.chip.specs.declared.access.Seen.{Seen}
 use Rattle.chip.proofs.AccessLaws.{write-open, read-open, write-data}
 
--- an index that was written holds the bits of it that its group keeps..
-pub index-same : (g : Group) (x : Indexes) (v : ℕ) → indexOf g (withIndex g x v) ≡ indexKept g v
+-- the bytes that hold the indexes, after one index is written: what is kept of it, and the others as they were
+pub byte-written : (g : Group) (x : Indexes) (v : ℕ) → indexByte g (withIndex g x v) ≡ indexKept g v
 unfolding indexKept
-index-same Cr x v = kept-again Cr v
-index-same Sr x v = kept-again Sr v
-index-same Gr x v = kept-again Gr v
-index-same Xr x v = kept-again Xr v
-index-same Fr x v = kept-again Fr v
-index-same Mr x v = kept-again Mr v
-index-same Msr x v = omega arith
-index-same Palmask x v = omega arith
-index-same Ar x v = kept-again Ar v
+byte-written Cr x v = refl
+byte-written Sr x v = refl
+byte-written Gr x v = refl
+byte-written Xr x v = refl
+byte-written Fr x v = refl
+byte-written Mr x v = refl
+byte-written Msr x v = omega arith
+byte-written Palmask x v = omega arith
+byte-written Ar x v = refl
 
--- ..and it is the same to write those bits alone
+pub byte-other : (g h : Group) (x : Indexes) (v : ℕ) → is g h ≡ false → indexByte h (withIndex g x v) ≡ indexByte h x
+byte-other g Cr x v e = rw e
+byte-other g Sr x v e = rw e
+byte-other g Gr x v e = rw e
+byte-other g Xr x v e = rw e
+byte-other g Fr x v e = rw e
+byte-other g Mr x v e = rw e
+byte-other g Msr x v e = refl
+byte-other g Palmask x v e = refl
+byte-other g Ar x v e = rw e
+
+-- so an index that was written holds the bits of it that are kept, it is the same to write those alone, and the other groups' indexes stay
+pub index-same : (g : Group) (x : Indexes) (v : ℕ) → indexOf g (withIndex g x v) ≡ indexKept g v
+index-same g x v = ap (indexKept g) (byte-written g x v) ∙ kept-again g v
+
 pub index-kept : (g : Group) (x : Indexes) (v : ℕ) → withIndex g x (indexKept g v) ≡ withIndex g x v
-index-kept Cr x v = rw (kept-again Cr v)
-index-kept Sr x v = rw (kept-again Sr v)
-index-kept Gr x v = rw (kept-again Gr v)
-index-kept Xr x v = rw (kept-again Xr v)
-index-kept Fr x v = rw (kept-again Fr v)
-index-kept Mr x v = rw (kept-again Mr v)
-index-kept Msr x v = refl
-index-kept Palmask x v = refl
-index-kept Ar x v = rw (kept-again Ar v)
+index-kept g x v = ap (withIndexByte g x) (kept-again g v)
 
--- the other groups' indexes stay
 pub index-other : (g h : Group) (x : Indexes) (v : ℕ) → (numberOf g ≡ numberOf h → ⊥) → indexOf h (withIndex g x v) ≡ indexOf h x
-index-other g h x v other = go h (ne-eqb (numberOf g) (numberOf h) other)
-  where
-    go : (h : Group) → is g h ≡ false → indexOf h (withIndex g x v) ≡ indexOf h x
-    go Cr e = rw e
-    go Sr e = rw e
-    go Gr e = rw e
-    go Xr e = rw e
-    go Fr e = rw e
-    go Mr e = rw e
-    go Msr e = refl
-    go Palmask e = refl
-    go Ar e = rw e
+index-other g h x v other = ap (indexKept h) (byte-other g h x v (ne-eqb (numberOf g) (numberOf h) other))
 
 -- the turn is no index
 pub index-turn : (h : Group) (x : Indexes) (turn : Bool) → indexByte h (withTurn x turn) ≡ indexByte h x

@@ -1,17 +1,20 @@
 -- Accesses keep sizes: no table and not the palette gets longer or shorter. So in every state that they reach from a reset each
 -- register with an index below 256 has its place, and the palette has 256 entries: what `received-same`, `received-bit` and
--- `coloured-same` ask for. No index passes 255 there, so this holds of the register and the entry that an index names.
+-- `coloured-same` ask for. No index passes 255, so this holds of the register and the entry that an index names. And accesses leave in
+-- the byte that holds an index no bit that its index register does not keep.
 use Prim.Native.Nat.{ℕ, _<_}
 use native.Mathlib.Omega.{arith}
 use mathlib.Core.Bool.{Bool, true, false, cond}
-use mathlib.Core.Path.{_≡_, refl, ap, _∙_}
+use mathlib.Core.Path.{_≡_, refl, sym, ap, _∙_}
 use mathlib.Core.List.{List}
 use lib.Dec.{eqb}
+use borrow.Author.Tests.{eqb-true}
 use lib.ListN.{length, set, length-set, length-replicate}
-use Rattle.registers.specs.Groups.{is}
+use Rattle.registers.specs.Groups.{groupAt, is}
 use Rattle.registers.specs.Indexes.{fits}
 use Rattle.registers.specs.WriteRule.{written}
 use Rattle.registers.proofs.IndexLaws.{kept-fits, fits-kept, kept-byte}
+use Rattle.registers.proofs.TableLaws.{group-numbered}
 use Rattle.registers.specs.declared.Group.{Group}
 use Rattle.registers.specs.declared.Group.the-variants.{Cr, Sr, Gr, Xr, Fr, Mr, Msr, Palmask, Ar}
 use Rattle.ports.specs.Ports.{target}
@@ -30,7 +33,7 @@ use Rattle.chip.specs.declared.Loading.{Loading}
 use Rattle.chip.proofs.Banks.{bank, place, room, place-room, bank-replaced, bank-same}
 use Rattle.chip.proofs.NameLaws.{Has, received-same}
 use Rattle.chip.proofs.AccessLaws.{write-cases, state-read, write-data, named-written, read-keeps-all}
-use Rattle.chip.proofs.IndexLaws.{index-turn}
+use Rattle.chip.proofs.IndexLaws.{byte-written, byte-other, index-turn}
 use Rattle.chip.proofs.PaletteLaws.{coloured-same, after, colour-by-ports}
 use Rattle.chip.proofs.ResetLaws.{length-filled, bank-reset}
 
@@ -79,27 +82,24 @@ record Within (c : Chip) : Type 0 where
   groups : (g : Group) → fits g (indexByte g (c .indexes)) ≡ true
   colours : c .loading .index < 0x100
 
-either : {A : Type 0} (P : A → Type 0) (z : Bool) (a b : A) → P a → P b → P (cond z a b)
-either P true a b ha hb = ha
-either P false a b ha hb = hb
-
 index-fits : (g h : Group) (x : Indexes) (v : ℕ) → fits h (indexByte h x) ≡ true → fits h (indexByte h (withIndex g x v)) ≡ true
-index-fits g Cr x v old = either (λ i. fits Cr i ≡ true) (is g Cr) _ _ (kept-fits Cr v) old
-index-fits g Sr x v old = either (λ i. fits Sr i ≡ true) (is g Sr) _ _ (kept-fits Sr v) old
-index-fits g Gr x v old = either (λ i. fits Gr i ≡ true) (is g Gr) _ _ (kept-fits Gr v) old
-index-fits g Xr x v old = either (λ i. fits Xr i ≡ true) (is g Xr) _ _ (kept-fits Xr v) old
-index-fits g Fr x v old = either (λ i. fits Fr i ≡ true) (is g Fr) _ _ (kept-fits Fr v) old
-index-fits g Mr x v old = either (λ i. fits Mr i ≡ true) (is g Mr) _ _ (kept-fits Mr v) old
-index-fits g Msr x v old = old
-index-fits g Palmask x v old = old
-index-fits g Ar x v old = either (λ i. fits Ar i ≡ true) (is g Ar) _ _ (kept-fits Ar v) old
+index-fits g h x v old = go (is g h) refl
+  where
+    go : (z : Bool) → is g h ≡ z → fits h (indexByte h (withIndex g x v)) ≡ true
+    go true e =
+        let same : g ≡ h = sym (group-numbered g) ∙ ap groupAt (eqb-true _ _ e) ∙ group-numbered h in
+        rw (← same) (ap (fits g) (byte-written g x v) ∙ kept-fits g v)
+    go false e = ap (fits h) (byte-other g h x v e) ∙ old
+
+either : (z : Bool) (a b : Loading) → a .index < 0x100 → b .index < 0x100 → cond z a b .index < 0x100
+either true a b ha hb = ha
+either false a b ha hb = hb
 
 moved-below : (l : Loading) → l .index < 0x100 → moved l .index < 0x100
-moved-below l h = either (λ (m : Loading). m .index < 0x100) (eqb (l .position) 2) _ _ (omega arith) h
+moved-below l h = either (eqb (l .position) 2) _ _ (omega arith) h
 
 held-below : (l : Loading) (v : ℕ) → l .index < 0x100 → held l v .index < 0x100
-held-below l v h =
-    either (λ (m : Loading). m .index < 0x100) (eqb (l .position) 2) _ _ h (either (λ (m : Loading). m .index < 0x100) (eqb (l .position) 1) _ _ h h)
+held-below l v h = either (eqb (l .position) 2) _ _ h (either (eqb (l .position) 1) _ _ h h)
 
 attribute-within : (c : Chip) (v : ℕ) → Within c → (z : Bool) → Within (cond z (attributeSet c v) (attributeAimed c v))
 attribute-within c v w true = record { groups = λ h. rw (index-turn h (c .indexes) false) (w .groups h); colours = w .colours }

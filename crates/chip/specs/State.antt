@@ -100,22 +100,26 @@ indexByte Msr x = 0x00
 indexByte Palmask x = 0x00
 indexByte Ar x = x .ar
 
--- a group's index: the bits that its index register has (document 02, P5). In a reached state the byte has no others: law `reach-kept`
+-- the indexes with one group's byte replaced
+abbrev pub withIndexByte : Group → Indexes → ℕ → Indexes
+withIndexByte g x b = record {
+  cr = cond (is g Cr) b (x .cr);
+  sr = cond (is g Sr) b (x .sr);
+  gr = cond (is g Gr) b (x .gr);
+  xr = cond (is g Xr) b (x .xr);
+  fr = cond (is g Fr) b (x .fr);
+  mr = cond (is g Mr) b (x .mr);
+  ar = cond (is g Ar) b (x .ar);
+  turn = x .turn;
+}
+
+-- document 02, P5: an index register keeps the bits that it has. So a group's index is those bits of its byte (in a reached state the byte
+-- has no others: law `reach-kept`), and those of what is written stay
 abbrev pub indexOf : Group → Indexes → ℕ
 indexOf g x = indexKept g (indexByte g x)
 
--- the indexes after one group's is written: it keeps the bits that its index register has
 abbrev pub withIndex : Group → Indexes → ℕ → Indexes
-withIndex g x v = record {
-  cr = cond (is g Cr) (indexKept Cr v) (x .cr);
-  sr = cond (is g Sr) (indexKept Sr v) (x .sr);
-  gr = cond (is g Gr) (indexKept Gr v) (x .gr);
-  xr = cond (is g Xr) (indexKept Xr v) (x .xr);
-  fr = cond (is g Fr) (indexKept Fr v) (x .fr);
-  mr = cond (is g Mr) (indexKept Mr v) (x .mr);
-  ar = cond (is g Ar) (indexKept Ar v) (x .ar);
-  turn = x .turn;
-}
+withIndex g x v = withIndexByte g x (indexKept g v)
 
 -- the indexes with the turn of 3C0h replaced: true, and data comes next
 abbrev pub withTurn : Indexes → Bool → Indexes
