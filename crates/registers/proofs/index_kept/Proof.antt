@@ -1,6 +1,6 @@
 -- Under a mask of low ones a byte is what is left of it by their power of two.
 use lib.Bits.{and-mask}
-use Rattle.registers.specs.Indexes.{indexBits, indexKept}
+use Rattle.registers.specs.Indexes.{indexKept}
 use borrow.Author.Needs.{needs}
 use Rattle.registers.proofs.index_kept.Statement.{statement}
 use Rattle.registers.proofs.index_kept.Tie as tie
