@@ -3,7 +3,7 @@
 -- numbers. A step that can do nothing: an unlisted register, a listed one by its bits, and what does not
 -- matter. What a step comes to, each answer exactly when.
 use mathlib.Core.Path.{_≡_, refl, sym, ap, _∙_}
-use mathlib.Core.Bool.{Bool, true, false, not, _&&_, and-true, and-false}
+use mathlib.Core.Bool.{Bool, true, false, not, _&&_, _||_, and-true, and-false}
 use Prim.Native.Nat.{ℕ, zero, suc, _*_, _/_, _%_, _^_, _≤_, _<_}
 use native.Mathlib.Nat.{pow-succ', div-div-eq-div-mul}
 use native.Mathlib.Omega.{arith}
@@ -174,3 +174,17 @@ good-passes q s e = go (legal q) refl (idle q) refl
         let t : Good q ≡ Good s = none (sym (passes-good q (record { lawful = l; useful = i }))) in
         let t′ : q ≡ s = cc in
         (t′, record { lawful = ap legal (sym t′) ∙ l; useful = ap idle (sym t′) ∙ i })
+
+-- document 02, P5: "the misfit is 7", whatever else there is to say of the step
+module _ (g i : ℕ) (misfit : fits (groupAt g) i ≡ false) where
+  misfit-unnamed : names g i ≡ false
+  unfolding names
+  misfit-unnamed = rw misfit (ap (λ (b : Bool). b && (ltb g 8 || ltb i 0x15)) (and-false (ltb g 9)))
+
+  pub misfit-set : (v : ℕ) → judged (Set g i v) ≡ Refused Unallowed
+  unfolding legal
+  misfit-set v = unallowed-first (Set g i v) misfit-unnamed
+
+  pub misfit-field : (v m : ℕ) → judged (Field g i v m) ≡ Refused Unallowed
+  unfolding legal
+  misfit-field v m = unallowed-first (Field g i v m) (rw misfit-unnamed)
