@@ -3,7 +3,7 @@
 use Prim.Native.Nat.{ℕ, suc, _+_, _-_, _/_, _%_, _^_, _≤_, _<_}
 use native.Mathlib.Omega.{arith}
 use native.Mathlib.Nat.{mod-lt, mod-eq-of-lt, div-eq-of-lt}
-use mathlib.Core.Bool.{Bool, true, false, cond, _&&_}
+use mathlib.Core.Bool.{Bool, true, false, cond, _&&_, false≢true}
 use mathlib.Core.Path.{_≡_, refl, sym, ap, _∙_}
 use mathlib.Core.List.{List, [], _∷_}
 use lib.Dec.{eqb, leb, leb·suc-suc}
@@ -91,7 +91,7 @@ misfit-in g (r ∷ rs) i t h =
   where
     go : (z : Bool) → eqb i (r .index) ≡ z → fits g (r .index) ≡ true → rowIn rs i ≡ Unlisted
         → cond z (Listed (r .writable) (r .reset)) (rowIn rs i) ≡ Unlisted
-    go true e here others = absurd (let is : i ≡ r .index = eqb-true _ _ e in let both : true ≡ false = sym here ∙ ap (fits g) (sym is) ∙ h in let z : _≡_ {A = ℕ} 0 1 = cc in omega arith)
+    go true e here others = absurd (false≢true (sym h ∙ ap (fits g) (eqb-true _ _ e) ∙ here))
     go false e here others = others
 
 pub misfit-unlisted : (g : Group) (i : ℕ) → isIndexed g ≡ true → fits g i ≡ false → rowOf g i ≡ Unlisted
@@ -102,6 +102,6 @@ misfit-unlisted Gr i x h = misfit-in Gr GR i refl h
 misfit-unlisted Xr i x h = misfit-in Xr XR i refl h
 misfit-unlisted Fr i x h = misfit-in Fr FR i refl h
 misfit-unlisted Mr i x h = misfit-in Mr MR i refl h
-misfit-unlisted Msr i x h = absurd (let z : _≡_ {A = ℕ} 0 1 = cc in omega arith)
-misfit-unlisted Palmask i x h = absurd (let z : _≡_ {A = ℕ} 0 1 = cc in omega arith)
+misfit-unlisted Msr i x h = absurd (false≢true x)
+misfit-unlisted Palmask i x h = absurd (false≢true x)
 misfit-unlisted Ar i x h = misfit-in Ar AR i refl h
