@@ -1,7 +1,7 @@
--- What the functions' proofs share. Areas: where a transfer's bytes lie, for `bounds`. Parts, Line and Ways: a line, for `lines`.
--- Rows: the lines of a transfer. Flags: a test made of two, and cases on a flag.
-pub mod Flags
-pub mod Areas
+-- Laws show that the definition of a transfer is the right one; Turns is what they and the proofs ask of `inTurn`.
+-- Parts, Line and Ways: a line, for `lines`. Rows: the lines of an accepted transfer.
+pub mod Turns
+pub mod Laws
 pub mod Parts
 pub mod Line
 pub mod Ways

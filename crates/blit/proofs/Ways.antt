@@ -12,8 +12,9 @@ use Rattle.lists.specs.Scan.{every}
 use Rattle.raster.specs.Raster.{raster, usesSource}
 use Rattle.raster.specs.Laws.{CCh-source, raster-no-source}
 use Rattle.blit.specs.Transfer.{inTurn}
-use Rattle.blit.specs.Turns.{in-turn-same, in-turn-more}
-use Rattle.blit.specs.Working.{Part, SourceStill, PatternStill, byteAt, lineByte, bytesFrom, plainByte, blendedByte, takenByte, becomes}
+use Rattle.blit.proofs.Turns.{in-turn-same, in-turn-more}
+use Rattle.blit_frame.specs.Lines.{byteAt}
+use Rattle.blit.specs.Working.{Part, SourceStill, PatternStill, lineByte, bytesFrom, plainByte, blendedByte, takenByte, becomes}
 use Rattle.blit.proofs.Parts.{part-as, part-unique, front, when, less-or-equal}
 use Rattle.blit.proofs.Line.{line-part}
 

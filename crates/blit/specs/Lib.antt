@@ -1,9 +1,4 @@
--- What has to be believed of video memory and block transfers is in Memory and Transfer. Numbers, Laws and Setups show that it is
--- right, with the laws of Turns. Working is for private functions alone.
-pub mod Memory
+-- What has to be believed of a block transfer's bytes is in Transfer; when it is done, and where its bytes lie, is crate blit_frame's.
+-- Working is for private functions alone.
 pub mod Transfer
-pub mod Turns
-pub mod Numbers
-pub mod Laws
-pub mod Setups
 pub mod Working

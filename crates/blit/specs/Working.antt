@@ -1,5 +1,4 @@
--- For the contracts of private functions alone: nothing here has to be believed. A line is given by its lowest address, its
--- width and its direction; `Part` says of two memories that one is the other with a stretch filled in.
+-- For the contracts of private functions alone: nothing here has to be believed. A line is given as in blit_frame's Lines; `Part` says of two memories that one is the other with a stretch filled in.
 use mathlib.Core.Path.{_≡_}
 use mathlib.Core.Bool.{Bool, true, false, cond}
 use mathlib.Core.Logic.{_⊎_}
@@ -7,24 +6,9 @@ use mathlib.Core.List.{List}
 use Prim.Native.Nat.{ℕ, _+_, _-_, _*_, _%_, _≤_, _<_}
 use lib.ListN.{length, getD, set}
 use Rattle.raster.specs.Raster.{raster, usesSource, usesPattern}
-use Rattle.blit.specs.declared.Area.{Area}
-use Rattle.blit.specs.declared.Transfer.{Transfer}
-use Rattle.blit.specs.Transfer.{patternLine}
-
--- a transfer's numbers in their ranges
-pub record Ranges (t : Transfer) : Type 0 where
-  pub wide : 1 ≤ t .width
-  pub narrow : t .width ≤ 8191
-  pub high : 1 ≤ t .height
-  pub low : t .height ≤ 8191
-
--- an address moved back or ahead
-abbrev pub moved : Bool → ℕ → ℕ → ℕ
-moved back a x = a + cond back 0 x - cond back x 0
-
--- byte c of a line of w bytes from its lowest address on
-abbrev pub byteAt : Bool → ℕ → ℕ → ℕ → ℕ
-byteAt left low w c = low + cond left (w - 1 - c) c
+use Rattle.blit_frame.specs.Frame.{patternLine}
+use Rattle.blit_frame.specs.Lines.{byteAt, lineLow}
+use Rattle.blit_frame.specs.declared.Transfer.{Transfer}
 
 -- byte c of a line: its operands read where the line's lowest addresses d and s and its pattern's eight bytes p say
 unfoldable pub lineByte : ℕ → Bool → Bool → Bool → ℕ → ℕ → ℕ → ℕ → ℕ → List ℕ → List ℕ
@@ -33,15 +17,12 @@ lineByte code source pattern left d s p w c m =
     (raster code (cond pattern (getD m (p + byteAt left d w c % 8) 0) 0) (cond source (getD m (byteAt left s w c) 0) 0)
     (getD m (byteAt left d w c) 0))
 
--- the lowest address of line r of an area; the source's or, for want of one, the destination's again; the pattern's eight bytes
-abbrev pub lineLow : Transfer → Area → ℕ → ℕ
-lineLow t a r = moved (t .leftward) (moved (t .upward) (a .address) (r * a .span)) (cond (t .leftward) (t .width - 1) 0)
-
+-- the lowest address of line r of the source or, for want of one, of the destination again; the pattern's eight bytes
 abbrev pub sourceLow : Transfer → ℕ → ℕ
 sourceLow t r = cond (usesSource (t .code)) (lineLow t (t .source) r) (lineLow t (t .destination) r)
 
-abbrev pub patternLow : Transfer → ℕ → ℕ
-patternLow t r = cond (usesPattern (t .code)) (patternLine t r) 0
+abbrev pub patternFirst : Transfer → ℕ → ℕ
+patternFirst t r = cond (usesPattern (t .code)) (patternLine t r) 0
 
 -- What byte k of a stretch becomes. The bytes from s on; the line from d on of a code that looks at no pattern; the same with its
 -- pattern in `pat` from f on; and with its source in `src` besides.
@@ -82,9 +63,3 @@ SourceStill false d s w = (d ≤ s) ⊎ (s + w ≤ d)
 pub record PatternStill (n d p w : ℕ) : Type 0 where
   pub whole : p + 8 ≤ n
   pub apart : (p + 8 ≤ d) ⊎ (d + w ≤ p)
-
--- of the pattern's bytes for a line, one lies outside n bytes
-pub record Missing (n d p w : ℕ) : Type 0 where
-  pub at : ℕ
-  pub used : at < w
-  pub outside : n ≤ p + (d + at) % 8

@@ -9,13 +9,15 @@ ghost use Prim.Native.Nat.{ℕ, _+_, _-_, _*_, _%_, _^_, _<_, _≤_};
 ghost use mathlib.Core.Logic.{_⊎_};
 ghost use lib.ListN.{length, getD};
 ghost use Rattle.raster.specs.Raster.{usesSource, usesPattern};
-ghost use Rattle.blit.specs.Transfer.{inMemory, inTurn, linesDone, patternLine};
-ghost use Rattle.blit.specs.Working.{Ranges, Part, Apart, SourceStill, PatternStill};
-ghost use Rattle.blit.specs.Working.{moved, byteAt, lineByte, lineLow, bytesFrom, plainByte, blendedByte, takenByte, becomes};
-use crate::Transfer;
-use crate::bounds::least;
-use crate::bounds::line_low;
-use crate::bounds::pattern_line;
+ghost use Rattle.blit_frame.specs.Frame.{accepted};
+ghost use Rattle.blit_frame.specs.Lines.{byteAt, lowOf, patternLow};
+ghost use Rattle.blit.specs.Transfer.{inTurn, linesDone};
+ghost use Rattle.blit.specs.Working.{Part, Apart, SourceStill, PatternStill};
+ghost use Rattle.blit.specs.Working.{lineByte, bytesFrom, plainByte, blendedByte, takenByte, becomes};
+use blit_frame::Transfer;
+use blit_frame::least;
+use blit_frame::line_low;
+use blit_frame::pattern_line;
 
 // An operand that is not looked at counts as 0.
 fn fetch(mem: &[u8], used: bool, at: usize) -> u8
@@ -416,11 +418,7 @@ fn line(
 
 // The lowest address of a line's source or, for want of one, of its destination again.
 fn source_low(t: Transfer, source: bool, r: usize, d: usize) -> usize
-    requires { ⌜ Ranges t ⌝ }
-    requires { ⌜ r ≤ 8191 ⌝ }
-    requires { ⌜ (source ≡ true → cond (t .upward) (r * t .source .span) 0 ≤ t .source .address) ⌝ }
-    requires { ⌜ (source ≡ true → cond (t .leftward) (t .width - 1) 0 ≤ moved (t .upward) (t .source .address) (r * t .source .span)) ⌝ }
-    ensures { λ res. ⌜ res ≡ cond source (lineLow t (t .source) r) d ⌝ }
+    ensures { λ res. ⌜ res ≡ cond source (lowOf (t .leftward) (t .upward) (t .source .address % 2 ^ 32) (t .source .span % 2 ^ 32) (t .width % 2 ^ 32) (r % 2 ^ 32)) d ⌝ }
 {
     if source {
         return line_low(t, t.source, r);
@@ -430,8 +428,7 @@ fn source_low(t: Transfer, source: bool, r: usize, d: usize) -> usize
 
 // The first of a line's eight pattern bytes, 0 for want of a pattern.
 fn pattern_low(t: Transfer, pattern: bool, r: usize) -> usize
-    requires { ⌜ r ≤ 8191 ⌝ }
-    ensures { λ res. ⌜ (res ≡ cond pattern (patternLine t r) 0) × (res < 2 ^ 33) ⌝ }
+    ensures { λ res. ⌜ (res ≡ cond pattern (patternLow (t .upward) (t .pattern % 2 ^ 32) (t .row) r) 0) × (res < 2 ^ 33) ⌝ }
 {
     if pattern {
         return pattern_line(t, r);
@@ -441,16 +438,14 @@ fn pattern_low(t: Transfer, pattern: bool, r: usize) -> usize
 
 // The lines, one after the other.
 fn all_lines(mem: &mut [u8], pat: &mut [u8], src: &mut [u8], t: Transfer)
-    requires { ⌜ Ranges t ⌝ }
-    requires { ⌜ (4096 ≤ length (now mem)) × (length (now mem) ≤ 2097152) ⌝ }
-    requires { ⌜ inMemory (length (now mem)) t ≡ true ⌝ }
+    requires { ⌜ accepted (length (now mem)) t ≡ true ⌝ }
     requires { ⌜ (t .width + 8 ≤ length (now pat)) × (16 ≤ length (now pat)) × (t .width ≤ length (now src)) ⌝ }
     ensures { λ r. ⌜ now (mem .exit) ≡ linesDone t (now (mem .entry)) ⌝ }
 {
     let source = raster::uses_source(t.code);
     let pattern = raster::uses_pattern(t.code);
-    let h = t.height as usize;
-    let w = t.width as usize;
+    let h = t.height;
+    let w = t.width;
     let mut r = 0;
     while r < h {
         let d = line_low(t, t.destination, r);
@@ -475,9 +470,7 @@ fn all_lines(mem: &mut [u8], pat: &mut [u8], src: &mut [u8], t: Transfer)
 
 // A narrow transfer has small buffers, which are quickly made.
 pub(crate) fn run(mem: &mut [u8], t: Transfer)
-    requires { ⌜ Ranges t ⌝ }
-    requires { ⌜ (4096 ≤ length (now mem)) × (length (now mem) ≤ 2097152) ⌝ }
-    requires { ⌜ inMemory (length (now mem)) t ≡ true ⌝ }
+    requires { ⌜ accepted (length (now mem)) t ≡ true ⌝ }
     ensures { λ r. ⌜ now (mem .exit) ≡ linesDone t (now (mem .entry)) ⌝ }
 {
     if t.width <= 64 {

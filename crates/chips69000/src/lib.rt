@@ -19,8 +19,8 @@ use state::access::write_number;
 use state::pixel::Colour;
 use state::pixel::colour_of;
 
-pub mod memory;
 pub mod scripts;
+pub mod video;
 
 // A byte as a longer number.
 fn wide(x: u8) -> u32

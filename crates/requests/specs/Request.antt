@@ -10,7 +10,7 @@ use Rattle.words.specs.Words.{word}
 use Rattle.words.specs.declared.Words.{Words}
 use Rattle.words.specs.declared.Number.{Number}
 use Rattle.words.specs.declared.Number.the-variants.{Of, Other}
-use Rattle.blit.specs.declared.Transfer.{Transfer}
+use Rattle.blit_frame.specs.declared.Transfer.{Transfer}
 use Rattle.requests.specs.declared.Request.{Request}
 use Rattle.requests.specs.declared.Request.the-variants.{Reset, Out, In, Pixel, Lend, Read, Write, Block, Dump, Unknown}
 

@@ -4,8 +4,8 @@ ghost use mathlib.Core.Path.{_≡_};
 ghost use Prim.Native.Nat.{_≤_};
 ghost use lib.Dec.{eqb};
 ghost use Rattle.requests.specs.Request.{fits as isUpTo, value as valueUpTo, isTransfer, transferOf, requestOf};
-use blit::Area;
-use blit::Transfer;
+use blit_frame::Area;
+use blit_frame::Transfer;
 use words::Number;
 use words::Words;
 use words::number_of;
@@ -21,11 +21,11 @@ pub enum Request {
     // `P PIXEL`: the colour of a pixel.
     Pixel(u8),
     // `M LENGTH`: so many bytes of memory.
-    Lend(u32),
+    Lend(usize),
     // `R ADDRESS`: a byte of memory.
-    Read(u32),
+    Read(usize),
     // `W ADDRESS BYTE`: a byte into memory.
-    Write(u32, u8),
+    Write(usize, u8),
     // `T` and eleven numbers: a transfer.
     Block(Transfer),
     // `D`: all registers.
@@ -79,10 +79,10 @@ fn direction(word: u64) -> bool
     value(1, word) == 1
 }
 
-fn number(word: u64) -> u32
+fn number(word: u64) -> usize
     ensures { λ r. ⌜ r ≡ valueUpTo 0xFFFFFFFF word ⌝ }
 {
-    value(0xFFFF_FFFF, word)
+    value(0xFFFF_FFFF, word) as usize
 }
 
 // Whether a word is one of these.

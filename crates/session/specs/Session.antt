@@ -1,7 +1,7 @@
 -- What a request does to the bench and to the store, and what it replies. The bench is a chip and the number of bytes that are lent;
 -- the memory is the first bytes of the store, so many as are lent, or all of it where it is shorter. Only `Lend`, `Write` and `Block`
 -- change the store, and no byte behind the memory. The numbers are document 01's, "Numbers returned"; what an access to a port and
--- an access to memory do is said in the crates chip and blit.
+-- an access to memory do is said in the crates chip, memory, blit_frame and blit.
 use Prim.Native.Nat.{ℕ}
 use mathlib.Core.Bool.{Bool, cond, _&&_}
 use mathlib.Core.List.{List, _++_}
@@ -15,9 +15,9 @@ use Rattle.chip.specs.declared.Chip.{Chip}
 use Rattle.chip.specs.declared.Rgb.{Rgb}
 use Rattle.chip.specs.declared.access.Wrote.{Wrote}
 use Rattle.chip.specs.declared.access.Seen.{Seen}
-use Rattle.blit.specs.Memory.{lengthAllowed, answerNumber, readNumber, readValue, byteRead, writeAnswer, byteWritten}
-use Rattle.blit.specs.Transfer.{transferAnswer, transferred}
-use Rattle.blit.specs.declared.Read.{Read as ByteRead}
+use Rattle.memory.specs.Memory.{lengthAllowed, byteNumber, byteValue, byteWritten}
+use Rattle.blit_frame.specs.Frame.{judgedNumber}
+use Rattle.blit.specs.Transfer.{transferred}
 use Rattle.requests.specs.declared.Request.{Request}
 use Rattle.requests.specs.declared.Request.the-variants.{Reset, Out, In, Pixel, Lend, Read, Write, Block, Dump, Unknown}
 use Rattle.replies.specs.declared.Reply.{Reply}
@@ -78,8 +78,8 @@ afterLend b size n = cond (lendable n size) (replied (withLent b n) (Number 0)) 
 unfoldable pub lentFrom : List ℕ → ℕ → List ℕ
 lentFrom store n = cond (lendable n (length store)) (cleared store n) store
 
-abbrev pub afterRead : Bench → ByteRead → Acted
-afterRead b r = replied b (Byte (readNumber r) (readValue r))
+abbrev pub afterRead : Bench → ℕ → ℕ → Acted
+afterRead b number value = replied b (Byte number value)
 
 -- ---- any request
 
@@ -89,9 +89,9 @@ acted b store (Out port v) = afterOut b (portWritten (b .chip) port v)
 acted b store (In port) = afterIn b (portRead (b .chip) port)
 acted b store (Pixel p) = afterPixel b (shown (named (b .chip)) p)
 acted b store (Lend n) = afterLend b (length store) n
-acted b store (Read a) = afterRead b (byteRead (memory (b .lent) store) a)
-acted b store (Write a v) = replied b (Number (answerNumber (writeAnswer (memory (b .lent) store) a)))
-acted b store (Block t) = replied b (Number (answerNumber (transferAnswer (memory (b .lent) store) t)))
+acted b store (Read a) = afterRead b (byteNumber (length (memory (b .lent) store)) a) (byteValue (memory (b .lent) store) a)
+acted b store (Write a v) = replied b (Number (byteNumber (length (memory (b .lent) store)) a))
+acted b store (Block t) = replied b (Number (judgedNumber (length (memory (b .lent) store)) t))
 acted b store Dump = replied b Registers
 acted b store Unknown = replied b NoForm
 

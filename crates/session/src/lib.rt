@@ -7,12 +7,14 @@ ghost use lib.ListN.{length};
 ghost use Rattle.chip.specs.State.{named};
 ghost use Rattle.chip.specs.Access.{portWritten, portRead};
 ghost use Rattle.chip.specs.Palette.{shown};
-ghost use Rattle.blit.specs.Memory.{answerNumber, byteRead, writeAnswer, byteWritten};
-ghost use Rattle.blit.specs.Transfer.{transferAnswer, transferred};
+ghost use Rattle.memory.specs.Memory.{readNumber, readValue, byteNumber, byteValue, byteWritten};
+ghost use Rattle.blit_frame.specs.Frame.{judgedNumber};
+ghost use Rattle.blit.specs.Transfer.{transferred};
 ghost use Rattle.session.specs.Session.{memory, withMemory, shorter, cleared, lentFrom, acted, storeAfter};
 ghost use Rattle.session.specs.Session.{afterReset, afterOut, afterIn, afterPixel, afterLend, afterRead};
-use blit::Transfer;
+use blit_frame::Transfer;
 use chip::Chip;
+use memory::Read;
 use replies::Reply;
 use requests::Request;
 
@@ -107,7 +109,7 @@ fn lend(b: Bench, store: &mut [u8], n: usize) -> Acted
     ensures { λ r. ⌜ r ≡ afterLend b (length (now (store .entry))) n ⌝ }
     ensures { λ r. ⌜ now (store .exit) ≡ lentFrom (now (store .entry)) n ⌝ }
 {
-    if !blit::length_allowed(n) {
+    if !memory::length_allowed(n) {
         return Acted {
             bench: b,
             reply: Reply::Number(3),
@@ -128,48 +130,48 @@ fn lend(b: Bench, store: &mut [u8], n: usize) -> Acted
 }
 
 // What a read answers, as a reply.
-fn seen(b: Bench, r: blit::Read) -> Acted
-    ensures { λ x. ⌜ x ≡ afterRead b r ⌝ }
+fn seen(b: Bench, r: Read) -> Acted
+    ensures { λ x. ⌜ x ≡ afterRead b (readNumber r) (readValue r) ⌝ }
 {
     match r {
-        blit::Read::Byte(v) => Acted {
+        Read::Byte(v) => Acted {
             bench: b,
             reply: Reply::Byte(0, v),
         },
-        blit::Read::Unread(why) => Acted {
+        Read::Unread(why) => Acted {
             bench: b,
-            reply: Reply::Byte(blit::refusal_number(why), 0xFF),
+            reply: Reply::Byte(memory::refusal_number(why), 0xFF),
         },
     }
 }
 
 // A linear read.
 fn load(b: Bench, store: &[u8], at: usize) -> Acted
-    ensures { λ r. ⌜ r ≡ afterRead b (byteRead (memory (b .lent) (now (store .entry))) at) ⌝ }
+    ensures { λ r. ⌜ r ≡ afterRead b (byteNumber (length (memory (b .lent) (now (store .entry)))) at) (byteValue (memory (b .lent) (now (store .entry))) at) ⌝ }
 {
     let n = shorter_of(b.lent, store.len());
-    let r = blit::read_byte(&store[..n], at);
+    let r = memory::read_byte(&store[..n], at);
     seen(b, r)
 }
 
 // A linear write: its number.
 fn save(lent: usize, store: &mut [u8], at: usize, v: u8) -> u8
-    ensures { λ r. ⌜ r ≡ answerNumber (writeAnswer (memory lent (now (store .entry))) at) ⌝ }
+    ensures { λ r. ⌜ r ≡ byteNumber (length (memory lent (now (store .entry)))) at ⌝ }
     ensures { λ r. ⌜ now (store .exit) ≡ withMemory lent (now (store .entry)) (byteWritten (memory lent (now (store .entry))) at v) ⌝ }
 {
     let n = shorter_of(lent, store.len());
-    let a = blit::write_byte(&mut store[..n], at, v);
-    blit::answer_number(a)
+    let a = memory::write_byte(&mut store[..n], at, v);
+    memory::answer_number(a)
 }
 
 // A block transfer: its number.
 fn carry(lent: usize, store: &mut [u8], t: Transfer) -> u8
-    ensures { λ r. ⌜ r ≡ answerNumber (transferAnswer (memory lent (now (store .entry))) t) ⌝ }
+    ensures { λ r. ⌜ r ≡ judgedNumber (length (memory lent (now (store .entry)))) t ⌝ }
     ensures { λ r. ⌜ now (store .exit) ≡ withMemory lent (now (store .entry)) (transferred (memory lent (now (store .entry))) t) ⌝ }
 {
     let n = shorter_of(lent, store.len());
     let a = blit::block_transfer(&mut store[..n], t);
-    blit::answer_number(a)
+    memory::answer_number(a)
 }
 
 // A request carried out.
@@ -182,10 +184,10 @@ pub fn act(b: Bench, store: &mut [u8], r: Request) -> Acted
         Request::Out(port, v) => output(b, port, v),
         Request::In(port) => input(b, port),
         Request::Pixel(p) => colour(b, p),
-        Request::Lend(n) => lend(b, store, n as usize),
-        Request::Read(at) => load(b, store, at as usize),
+        Request::Lend(n) => lend(b, store, n),
+        Request::Read(at) => load(b, store, at),
         Request::Write(at, v) => {
-            let n = save(b.lent, store, at as usize, v);
+            let n = save(b.lent, store, at, v);
             Acted {
                 bench: b,
                 reply: Reply::Number(n),

@@ -1,18 +1,23 @@
 // Document 01's set-ups on the compiled code, and cases of document 02's requests: a line a case, `3 ok` or
 // `P1.2 ok`, or the bytes that came out instead. The cases marked *, and those of requests, are also rows of the
-// table in specs/Setups, which is proved. A case is sixteen bytes:
+// tables of crates `cases` and `request_cases`, which are proved. A case is sixteen bytes:
 // what came out, and zeros after it.
-use blit::Area;
-use blit::Transfer;
-use blit::answer_number;
 use blit::block_transfer;
+use blit_frame::Area;
+use blit_frame::Transfer;
+use cases::after_read;
+use cases::after_write as after;
+use cases::byte_read as seen;
+use cases::read_number;
+use cases::write_number as refusal;
 use chip::Chip;
-use chip::access::number;
 use commands::translate;
 use libc::STDOUT_FILENO;
+use memory::answer_number;
 use raster::raster_byte;
 use registers::Group;
-use writer::Written;
+use request_cases::written_number;
+use request_cases::written_value;
 
 // A capital hexadecimal digit.
 fn digit(x: u8) -> u8 {
@@ -61,29 +66,6 @@ fn report_request(request: u64, case: u64, got: [u8; 16], want: [u8; 16]) {
     report(case, got, want);
 }
 
-// A chip after a write to a port, and what a read of a port gives.
-fn after(c: Chip, port: u16, v: u8) -> Chip {
-    let w = c.write(port, v);
-    w.chip
-}
-
-fn seen(c: Chip, port: u16) -> u8 {
-    let s = c.read(port);
-    s.value
-}
-
-// A chip after a read of a port, and the number of a write to one.
-fn after_read(c: Chip, port: u16) -> Chip {
-    let s = c.read(port);
-    s.chip
-}
-
-fn refusal(c: Chip, port: u16, v: u8) -> u8 {
-    let w = c.write(port, v);
-    let answer = w.answer;
-    number(answer)
-}
-
 // 1. XR60, XR67, MR1F written FFh.
 fn case_1() -> [u8; 16] {
     let a = after(after(Chip::new(0x02, 0x00), 0x3D6, 0x60), 0x3D7, 0xFF);
@@ -105,11 +87,10 @@ fn case_2() -> [u8; 16] {
 
 // 3. First pin byte 00h: reading 3D7h, number and byte.
 fn case_3() -> [u8; 16] {
-    let s = Chip::new(0x00, 0x00).read(0x3D7);
-    let answer = s.answer;
+    let c = Chip::new(0x00, 0x00);
     let mut out = [0u8; 16];
-    out[0] = number(answer);
-    out[1] = s.value;
+    out[0] = read_number(c, 0x3D7);
+    out[1] = seen(c, 0x3D7);
     out
 }
 
@@ -170,7 +151,7 @@ fn case_8() -> [u8; 16] {
 }
 
 // One line in a memory of 4,096 bytes that begins 1, 2, 3, 4, 5: the number, and the first five bytes.
-fn one_line(code: u8, leftward: bool, width: u32, source: u32, destination: u32) -> [u8; 16] {
+fn one_line(code: u8, leftward: bool, width: usize, source: usize, destination: usize) -> [u8; 16] {
     let mut mem = [0u8; 4096];
     mem[0] = 1;
     mem[1] = 2;
@@ -319,11 +300,7 @@ fn case_p1_5() -> [u8; 16] {
 
 // What the writer answers for steps, with room for a block: the number and the value.
 fn answer(steps: &[u8]) -> [u8; 2] {
-    let mut file = [0u8; 512];
-    match writer::write(steps, &mut file) {
-        Written::Blocks(n) => [0, (n % 256) as u8],
-        Written::Refused(r) => [r.number(), (r.value() % 256) as u8],
-    }
+    [written_number(steps), (written_value(steps) % 256) as u8]
 }
 
 // P2.1. SET XR60 43h, SET XR70 43h; SET SR05 00h.

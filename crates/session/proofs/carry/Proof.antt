@@ -22,4 +22,4 @@ carry-spec =
     let s = now (a .store) in
     let e = c .before .before .before .before .before .shorter-of .ensures .0 in
     let r = c .before .before .before .block-transfer .ensures in
-    (rw (c .answer-number .ensures, r .0, take-shorter (a .lent) s e), memory-back (a .lent) s e (λ m. transferred m (a .t)) (r .1))))
+    (rw (c .answer-number .ensures, r .1 .0, take-shorter (a .lent) s e), memory-back (a .lent) s e (λ m. transferred m (a .t)) (r .1 .1))))

@@ -17,4 +17,5 @@ load-spec =
     (λ c κs. search needs)
     (λ c. let a = c .before .before .before .before .before .args in
     let e = take-shorter (a .b .lent) (now (a .store)) (c .before .before .before .shorter-of .ensures .0) in
-    rw (← e, ← c .before .read-byte .ensures) (c .seen .ensures)))
+    let r = c .before .read-byte .ensures in
+    rw (← e, ← r .1 .0, ← r .1 .1) (c .seen .ensures)))

@@ -3,7 +3,7 @@ use borrow.Author.Needs.{needs}
 use denote.Ref.{now}
 use lib.Seq.{length-take-le}
 use mathlib.Core.Path.{sym}
-use Rattle.blit.specs.Memory.{byteWritten}
+use Rattle.memory.specs.Memory.{byteWritten}
 use Rattle.session.proofs.StoreLaws.{take-shorter, memory-back}
 use Rattle.session.proofs.save.Statement.{statement}
 use Rattle.session.proofs.save.Tie as tie
@@ -22,4 +22,4 @@ save-spec =
     let s = now (a .store) in
     let e = c .before .before .before .before .before .shorter-of .ensures .0 in
     let r = c .before .before .before .write-byte .ensures in
-    (rw (c .answer-number .ensures, r .0, take-shorter (a .lent) s e), memory-back (a .lent) s e (λ m. byteWritten m (a .at) (a .v)) (r .1))))
+    (rw (c .answer-number .ensures, r .1 .0, take-shorter (a .lent) s e), memory-back (a .lent) s e (λ m. byteWritten m (a .at) (a .v)) (r .1 .1))))

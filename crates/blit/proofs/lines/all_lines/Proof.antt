@@ -7,10 +7,10 @@ use native.Mathlib.Numerals.{add-one}
 use native.Mathlib.Omega.{arith}
 use borrow.Author.Needs.{needs}
 use Rattle.raster.specs.Raster.{usesSource, usesPattern}
-use Rattle.blit.specs.Transfer.{everyByte, within, inTurn, lineDone, linesDone}
-use Rattle.blit.specs.Working.{lineLow, sourceLow, patternLow}
-use Rattle.blit.proofs.Areas.{line-back, low-back, destination-in, source-in}
-use Rattle.blit.proofs.Rows.{destination-fits, source-fits, pattern-fits, line-done}
+use Rattle.blit.specs.Transfer.{inTurn, lineDone, linesDone}
+use Rattle.blit_frame.specs.Lines.{lineLow}
+use Rattle.blit.specs.Working.{sourceLow, patternFirst}
+use Rattle.blit.proofs.Rows.{sizes, in-ranges, destination-low, source-low, pattern-low, destination-fits, source-fits, pattern-fits, line-done}
 use Rattle.blit.proofs.lines.all_lines.Statement.{statement}
 use Rattle.blit.proofs.lines.all_lines.Tie as tie
 
@@ -25,68 +25,40 @@ loop-holds : tie.Need-loop-holds Inv-loop μ-loop
 unfolding inTurn
 loop-holds c = (search needs, refl, refl, refl, refl)
 
-line-low-requires : tie.Need-line-low-requires Inv-loop μ-loop
-line-low-requires c κs =
-    let b = c .before .before .before .before .before .before .before .before .before in
-    let t = b .args .t in
-    let r = c .before .loop .r in
-    let hr : r < t .height = c .loop-test .taken in
-    let inside = destination-in _ t (b .pre .1 .1 .0) in
-    (b .pre .0, ((search needs, line-back _ t (t .destination) (b .pre .0 .wide) inside r hr), low-back _ t (t .destination) (b .pre .0 .wide) inside r hr))
-
-source-low-requires : tie.Need-source-low-requires Inv-loop μ-loop
-source-low-requires c κs =
-    let b = c .before .before .before .before .before .before .before .before .before .before in
-    let t = b .args .t in
-    let r = c .before .before .loop .r in
-    let hr : r < t .height = c .before .loop-test .taken in
-    let inside : c .before .before .before .before .before .before .uses-source .result ≡ true → everyByte t (within (length (b .args .mem .now)) t (t .source)) ≡ true = λ e. source-in _ t (b .pre .1 .1 .0) (sym (c .before .before .before .before .before .before .uses-source .ensures) ∙ e) in (
-      b .pre .0,
-      (
-        search needs,
-        (
-          λ e. line-back _ t (t .source) (b .pre .0 .wide) (inside e) r hr,
-          λ e. low-back _ t (t .source) (b .pre .0 .wide) (inside e) r hr,
-        ),
-      ),
-    )
-
 line-requires : tie.Need-line-requires Inv-loop μ-loop
 line-requires c κs =
-    let b = c .before .before .before .before .before .before .before .before .before .before .before .before .before .before .before in
+    let b = c .before .before .before .before .before .before .before .before .before .before .before .before .before in
     let t = b .args .t in
     let l = c .before .before .before .before .before .before .before .loop in
     let n = length (b .args .mem .now) in
+    let ok = b .pre .0 in
     let hr : l .r < t .height = c .before .before .before .before .before .before .loop-test .taken in
-    let es : c .before .before .before .before .before .before .before .before .before .before .before .uses-source .result ≡ usesSource (t .code) = c .before .before .before .before .before .before .before .before .before .before .before .uses-source .ensures in
-    let ep : c .before .before .before .before .before .before .before .before .before .before .uses-pattern .result ≡ usesPattern (t .code) = c .before .before .before .before .before .before .before .before .before .before .uses-pattern .ensures in
-    let low : c .before .before .before .before .before .line-low .result ≡ lineLow t (t .destination) (l .r) = c .before .before .before .before .before .line-low .ensures in
-    let slow : c .before .before .before .before .source-low .result ≡ sourceLow t (l .r) = rw (es, low) at (c .before .before .before .before .source-low .ensures) in
-    let plow : c .before .before .before .pattern-low .result ≡ patternLow t (l .r) = rw ep at (c .before .before .before .pattern-low .ensures .0) in
+    let es : c .before .before .before .before .before .before .before .before .before .uses-source .result ≡ usesSource (t .code) = c .before .before .before .before .before .before .before .before .before .uses-source .ensures in
+    let ep : c .before .before .before .before .before .before .before .before .uses-pattern .result ≡ usesPattern (t .code) = c .before .before .before .before .before .before .before .before .uses-pattern .ensures in
+    let low : c .before .before .before .before .before .line-low .result ≡ lineLow t (t .destination) (l .r) = c .before .before .before .before .before .line-low .ensures ∙ destination-low n t ok (l .r) hr in
+    let slow : c .before .before .before .before .source-low .result ≡ sourceLow t (l .r) = rw (es, low) at (c .before .before .before .before .source-low .ensures) ∙ source-low n t ok (l .r) hr in
+    let plow : c .before .before .before .pattern-low .result ≡ patternFirst t (l .r) = rw ep at (c .before .before .before .pattern-low .ensures .0) ∙ pattern-low n t ok (l .r) hr in
     let again : usesSource (t .code) ≡ false → sourceLow t (l .r) ≡ lineLow t (t .destination) (l .r) = λ e. ap (λ (x : Bool). cond x (lineLow t (t .source) (l .r)) (lineLow t (t .destination) (l .r))) e in
-    let ok = b .pre .1 .1 .0 in
-    let D = destination-fits n t (b .pre .0) (b .pre .1 .0 .0) ok (l .r) hr in
-    let S = source-fits n t (b .pre .0) (b .pre .1 .0 .0) ok (l .r) hr in
-    let P = pattern-fits n t (b .pre .0) (b .pre .1 .0 .0) ok (l .r) hr in
-    let small : patternLow t (l .r) < 2 ^ 62 = omega (arith, plow, c .before .before .before .pattern-low .ensures .1) in
+    let small : patternFirst t (l .r) < 2 ^ 62 = omega (arith, plow, c .before .before .before .pattern-low .ensures .1) in
     rw (l .inv .1, l .inv .3, l .inv .4, low, slow, plow, es, ep)
-    ((D, S, omega (arith, b .pre .1 .0 .1), small, b .pre .0 .narrow), (b .pre .1 .1 .1, (P, (refl, refl, again))))
+    ((destination-fits n t ok (l .r) hr, source-fits n t ok (l .r) hr, omega (arith, sizes n t ok .1), small, in-ranges n t ok .narrow), (b .pre .1, (pattern-fits n t ok (l .r) hr, (refl, refl, again))))
 
 loop-again : tie.Need-loop-again Inv-loop μ-loop
 unfolding inTurn
 loop-again c =
-    let b = c .before .before .before .before .before .before .before .before .before .before .before .before .before .before .before .before .before .before .before .before .before .before in
+    let b = c .before .before .before .before .before .before .before .before .before .before .before .before .before .before .before .before .before .before .before .before in
     let t = b .args .t in
     let l = c .before .before .before .before .before .before .before .before .before .before .before .before .before .before .loop in
     let n = length (b .args .mem .now) in
+    let ok = b .pre .0 in
     let hr : l .r < t .height = c .before .before .before .before .before .before .before .before .before .before .before .before .before .loop-test .taken in
-    let es : c .before .before .before .before .before .before .before .before .before .before .before .before .before .before .before .before .before .before .uses-source .result ≡ usesSource (t .code) = c .before .before .before .before .before .before .before .before .before .before .before .before .before .before .before .before .before .before .uses-source .ensures in
-    let ep : c .before .before .before .before .before .before .before .before .before .before .before .before .before .before .before .before .before .uses-pattern .result ≡ usesPattern (t .code) = c .before .before .before .before .before .before .before .before .before .before .before .before .before .before .before .before .before .uses-pattern .ensures in
-    let low : c .before .before .before .before .before .before .before .before .before .before .before .before .line-low .result ≡ lineLow t (t .destination) (l .r) = c .before .before .before .before .before .before .before .before .before .before .before .before .line-low .ensures in
-    let slow : c .before .before .before .before .before .before .before .before .before .before .before .source-low .result ≡ sourceLow t (l .r) = rw (es, low) at (c .before .before .before .before .before .before .before .before .before .before .before .source-low .ensures) in
-    let plow : c .before .before .before .before .before .before .before .before .before .before .pattern-low .result ≡ patternLow t (l .r) = rw ep at (c .before .before .before .before .before .before .before .before .before .before .pattern-low .ensures .0) in
+    let es : c .before .before .before .before .before .before .before .before .before .before .before .before .before .before .before .before .uses-source .result ≡ usesSource (t .code) = c .before .before .before .before .before .before .before .before .before .before .before .before .before .before .before .before .uses-source .ensures in
+    let ep : c .before .before .before .before .before .before .before .before .before .before .before .before .before .before .before .uses-pattern .result ≡ usesPattern (t .code) = c .before .before .before .before .before .before .before .before .before .before .before .before .before .before .before .uses-pattern .ensures in
+    let low : c .before .before .before .before .before .before .before .before .before .before .before .before .line-low .result ≡ lineLow t (t .destination) (l .r) = c .before .before .before .before .before .before .before .before .before .before .before .before .line-low .ensures ∙ destination-low n t ok (l .r) hr in
+    let slow : c .before .before .before .before .before .before .before .before .before .before .before .source-low .result ≡ sourceLow t (l .r) = rw (es, low) at (c .before .before .before .before .before .before .before .before .before .before .before .source-low .ensures) ∙ source-low n t ok (l .r) hr in
+    let plow : c .before .before .before .before .before .before .before .before .before .before .pattern-low .result ≡ patternFirst t (l .r) = rw ep at (c .before .before .before .before .before .before .before .before .before .before .pattern-low .ensures .0) ∙ pattern-low n t ok (l .r) hr in
     let done = rw (es, ep, low, slow, plow) at (c .before .before .before .before .before .before .line .ensures) in
-    let law = line-done n t (b .pre .0) (b .pre .1 .0 .0) (b .pre .1 .1 .0) (l .r) hr (l .mem) in (
+    let law = line-done n t ok (l .r) hr (l .mem) in (
       search needs,
       search needs,
       rw add-one (done ∙ law ∙ ap (lineDone t (l .r)) (l .inv .2)),
@@ -96,7 +68,7 @@ loop-again c =
 
 returns : tie.Need-returns Inv-loop μ-loop
 unfolding linesDone
-returns c = let e : c .before .loop .r ≡ c .before .before .before .before .before .before .before .before .before .args .t .height = omega arith in rw e at (c .before .loop .inv .2)
+returns c = let e : c .before .loop .r ≡ c .before .before .before .before .before .before .before .args .t .height = omega arith in rw e at (c .before .loop .inv .2)
 
 pub all-lines-spec : {M : Type 1} → statement M
 all-lines-spec =
@@ -106,14 +78,14 @@ all-lines-spec =
     μ-loop
     (λ c κs. search needs)
     (λ c κs. search needs)
-    (λ c. search needs)
-    (λ c. search needs)
     loop-holds
-    line-low-requires
-    source-low-requires
+    (λ c κs. search needs)
+    (λ c κs. search needs)
     (λ c κs. search needs)
     line-requires
-    (λ c. omega arith)
+    (λ c.
+    let b = c .before .before .before .before .before .before .before .before .before .before .before .before .before .before .before .before .before .before .before .before in
+    omega (arith, in-ranges (length (b .args .mem .now)) (b .args .t) (b .pre .0) .low, c .before .before .before .before .before .before .before .before .before .before .before .before .before .loop-test .taken))
     (λ c. omega arith)
     loop-again
     (λ c. search needs)

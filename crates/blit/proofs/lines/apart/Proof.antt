@@ -5,7 +5,7 @@ use Prim.Native.Nat.{_+_}
 use lib.Dec.{leb}
 use native.Mathlib.Omega.{arith}
 use borrow.Author.Tests.{leb-true}
-use Rattle.blit.proofs.Flags.{or-true, if-so}
+use Rattle.blit_frame.proofs.Flags.{or-true, if-so}
 use Rattle.blit.proofs.lines.apart.Statement.{statement}
 use Rattle.blit.proofs.lines.apart.Tie as tie
 

@@ -7,7 +7,7 @@ use native.Mathlib.Omega.{arith}
 use borrow.Author.Needs.{needs}
 use borrow.Author.Tests.{not-false}
 use Rattle.blit.specs.Working.{PatternStill}
-use Rattle.blit.proofs.Flags.{both-ways}
+use Rattle.blit_frame.proofs.Flags.{both-ways}
 use Rattle.blit.proofs.Ways.{free, gap-still, copied, blended-taken, blended, blended-plain}
 use Rattle.blit.proofs.lines.line.Statement.{statement}
 use Rattle.blit.proofs.lines.line.Tie as tie

@@ -6,7 +6,7 @@ use lib.Dec.{leb}
 use native.Mathlib.Omega.{arith}
 use borrow.Author.Tests.{leb-true}
 use Rattle.lists.proofs.Tests.{and-both}
-use Rattle.blit.proofs.Flags.{or-true}
+use Rattle.blit_frame.proofs.Flags.{or-true}
 use Rattle.blit.proofs.lines.pattern_still.Statement.{statement}
 use Rattle.blit.proofs.lines.pattern_still.Tie as tie
 

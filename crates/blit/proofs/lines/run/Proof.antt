@@ -1,6 +1,8 @@
 -- `blit::lines::run` meets its contract: either pair of buffers is long enough. Assumes nothing.
+use lib.ListN.{length}
 use native.Mathlib.Omega.{arith}
 use borrow.Author.Needs.{needs}
+use Rattle.blit.proofs.Rows.{in-ranges}
 use Rattle.blit.proofs.lines.run.Statement.{statement}
 use Rattle.blit.proofs.lines.run.Tie as tie
 
@@ -10,11 +12,14 @@ run-spec =
     (tie.spec
     (λ c. search needs)
     (λ c. search needs)
-    (λ c κs. (c .before .before .before .before .before .before .pre .0, (c .before .before .before .before .before .before .pre .1 .0, (c .before .before .before .before .before .before .pre .1 .1, (search needs, search needs, search needs)))))
+    (λ c κs. (c .before .before .before .before .before .before .pre, (search needs, search needs, search needs)))
     (λ c. search needs)
     (λ c. search needs)
     (λ c. search needs)
     (λ c. search needs)
-    (λ c κs. (c .before .before .before .before .before .before .pre .0, (c .before .before .before .before .before .before .pre .1 .0, (c .before .before .before .before .before .before .pre .1 .1, (omega (arith, c .before .before .before .before .before .before .pre .0 .narrow), search needs, omega (arith, c .before .before .before .before .before .before .pre .0 .narrow))))))
+    (λ c κs.
+    let b = c .before .before .before .before .before .before in
+    let narrow = in-ranges (length (b .args .mem .now)) (b .args .t) (b .pre) .narrow in
+    (b .pre, (omega (arith, narrow), search needs, omega (arith, narrow))))
     (λ c. search needs)
     (λ c. search needs))

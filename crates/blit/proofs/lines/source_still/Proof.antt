@@ -4,7 +4,7 @@ use Prim.Native.Nat.{_+_}
 use lib.Dec.{leb}
 use native.Mathlib.Omega.{arith}
 use borrow.Author.Tests.{leb-true}
-use Rattle.blit.proofs.Flags.{or-true}
+use Rattle.blit_frame.proofs.Flags.{or-true}
 use Rattle.blit.proofs.lines.source_still.Statement.{statement}
 use Rattle.blit.proofs.lines.source_still.Tie as tie
 

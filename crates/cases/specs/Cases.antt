@@ -1,0 +1,112 @@
+-- What a case of a table of set-ups can say, and when it holds, over the definitions that the contracts cite. The tables are Starred,
+-- document 01's, and in crate request_cases those of document 02's requests.
+use Prim.Native.Nat.{ℕ, _-_}
+use mathlib.Core.Bool.{Bool, true, false, _&&_}
+use mathlib.Core.List.{List, [], _∷_, _++_}
+use lib.Dec.{eqb}
+use lib.ListN.{length, take, replicate}
+use Rattle.registers.specs.declared.Group.{Group}
+use Rattle.chip.specs.State.{named}
+use Rattle.chip.specs.Names.{register}
+use Rattle.chip.specs.Palette.{entry, shown}
+use Rattle.chip.specs.Access.{numberOf, portWritten, portRead}
+use Rattle.chip.specs.Reset.{reset}
+use Rattle.chip.specs.declared.Chip.{Chip}
+use Rattle.chip.specs.declared.Rgb.{Rgb}
+use Rattle.raster.specs.Raster.{raster}
+use Rattle.blit.specs.Transfer.{transferred}
+use Rattle.blit_frame.specs.declared.Transfer.{Transfer}
+use Rattle.steps.specs.Step.{bytesOf as stepBytes}
+use Rattle.steps.specs.declared.Step.{Step}
+use Rattle.script.specs.Block.{word}
+use Rattle.writer.specs.Write.{fileOf, written, ofWritten}
+use Rattle.commands.specs.Command.{bytesOfAll}
+use Rattle.commands.specs.Expansion.{expanded}
+
+-- ---- what a row can say
+
+-- one thing that is done to a chip or looked up in it
+pub data Event : Type 0 where
+  -- a byte written to a port, with number 0
+  gets : ℕ → ℕ → Event
+  -- a byte written to a port, with another number
+  refuses : ℕ → ℕ → ℕ → Event
+  -- a port read, with number 0
+  reads : ℕ → ℕ → Event
+  -- a register by name
+  is : Group → ℕ → ℕ → Event
+  -- a palette entry, and the colour of a pixel
+  colour : ℕ → ℕ → ℕ → ℕ → Event
+  shows : ℕ → ℕ → ℕ → ℕ → Event
+
+pub data Row : Type 0 where
+  -- from a reset with these pin bytes
+  chip : ℕ → ℕ → List Event → Row
+  -- P, S, D, a code and the byte that it gives
+  raster-byte : ℕ → ℕ → ℕ → ℕ → ℕ → Row
+  -- the first bytes of a memory of 4,096, a transfer, and the first bytes afterwards
+  moves : List ℕ → Transfer → List ℕ → Row
+  -- a step and the bytes of its commands
+  commands : Step → List ℕ → Row
+  -- a file of one step: the writer makes one block of it, whose check is this
+  check : Step → ℕ → Row
+  -- steps given to the writer with room for a block, and its number and value
+  answers : List Step → ℕ → ℕ → Row
+
+-- ---- when it holds
+
+abbrev pub same : List ℕ → List ℕ → Bool
+same [] [] = true
+same [] (y ∷ ys) = false
+same (x ∷ xs) [] = false
+same (x ∷ xs) (y ∷ ys) = eqb x y && same xs ys
+
+abbrev pub components : Rgb → List ℕ
+components c = c .red ∷ c .green ∷ c .blue ∷ []
+
+abbrev pub happens : Chip → List Event → Bool
+happens c [] = true
+happens c (gets p v ∷ es) = eqb (numberOf (portWritten c p v .answer)) 0 && happens (portWritten c p v .chip) es
+happens c (refuses p v number ∷ es) = eqb (numberOf (portWritten c p v .answer)) number && happens (portWritten c p v .chip) es
+happens c (reads p v ∷ es) = eqb (numberOf (portRead c p .answer)) 0 && (eqb (portRead c p .value) v && happens (portRead c p .chip) es)
+happens c (is g i v ∷ es) = eqb (register g (named c) i) v && happens c es
+happens c (colour e r g b ∷ es) = same (components (entry (named c) e)) (r ∷ g ∷ b ∷ []) && happens c es
+happens c (shows p r g b ∷ es) = same (components (shown (named c) p)) (r ∷ g ∷ b ∷ []) && happens c es
+
+-- a memory of 4,096 bytes that begins so
+abbrev pub memory : List ℕ → List ℕ
+memory front = front ++ replicate (4096 - length front) 0
+
+abbrev pub listOf : List Step → List ℕ
+listOf [] = []
+listOf (s ∷ ss) = stepBytes s ++ listOf ss
+
+-- the writer, with room for a block, answers so
+abbrev pub written-as : List Step → ℕ → ℕ → Bool
+written-as ss number value = eqb (ofWritten (written (listOf ss) 512) .number) number && eqb (ofWritten (written (listOf ss) 512) .value) value
+
+abbrev pub holds : Row → Bool
+holds (chip first second es) = happens (reset first second) es
+holds (raster-byte p s d code byte) = eqb (raster code p s d) byte
+holds (moves front t after) = same (take (length after) (transferred (memory front) t)) after
+holds (commands s bytes) = same (bytesOfAll (expanded s)) bytes
+holds (check s w) = written-as (s ∷ []) 0 1 && (eqb (length (fileOf (stepBytes s))) 512 && eqb (word (fileOf (stepBytes s)) 510) w)
+holds (answers ss number value) = written-as ss number value
+
+-- ---- a table: each case with its number in the document
+
+pub record Case : Type 0 where
+  pub number : ℕ
+  pub row : Row
+
+abbrev pub numbers : List Case → List ℕ
+numbers [] = []
+numbers (c ∷ cs) = c .number ∷ numbers cs
+
+abbrev pub allHold : List Case → Bool
+allHold [] = true
+allHold (c ∷ cs) = holds (c .row) && allHold cs
+
+-- a row under its number
+abbrev pub case : ℕ → Row → Case
+case n r = record { number = n; row = r }

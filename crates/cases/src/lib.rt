@@ -1,0 +1,44 @@
+// Set-ups to try: what a case of a table can say (specs/Cases), document 01's starred ones (specs/Starred), and in code what the program
+// `setups` asks of a chip. The cases of document 02's requests are crate `request_cases`.
+ghost use mathlib.Core.Path.{_≡_};
+ghost use Rattle.chip.specs.Access.{numberOf, portWritten, portRead};
+use chip::Chip;
+
+// A chip after a write to a port, and the number of the write.
+pub fn after_write(c: Chip, port: u16, v: u8) -> Chip
+    ensures { λ r. ⌜ r ≡ portWritten c port v .chip ⌝ }
+{
+    let w = c.write(port, v);
+    w.chip
+}
+
+pub fn write_number(c: Chip, port: u16, v: u8) -> u8
+    ensures { λ r. ⌜ r ≡ numberOf (portWritten c port v .answer) ⌝ }
+{
+    let w = c.write(port, v);
+    let answer = w.answer;
+    chip::access::number(answer)
+}
+
+// A chip after a read of a port, the byte that the read gives, and its number.
+pub fn after_read(c: Chip, port: u16) -> Chip
+    ensures { λ r. ⌜ r ≡ portRead c port .chip ⌝ }
+{
+    let s = c.read(port);
+    s.chip
+}
+
+pub fn byte_read(c: Chip, port: u16) -> u8
+    ensures { λ r. ⌜ r ≡ portRead c port .value ⌝ }
+{
+    let s = c.read(port);
+    s.value
+}
+
+pub fn read_number(c: Chip, port: u16) -> u8
+    ensures { λ r. ⌜ r ≡ numberOf (portRead c port .answer) ⌝ }
+{
+    let s = c.read(port);
+    let answer = s.answer;
+    chip::access::number(answer)
+}

@@ -1,0 +1,2 @@
+-- Cases of document 02's requests.
+pub mod Asked
