@@ -14,10 +14,7 @@
 #include <string.h>
 #include <time.h>
 
-// The transfer of crate blit, through the boundary crate blit_c. It returns document 01's number.
-uint8_t blit_transfer(uint8_t *mem, size_t len, uint32_t dst, uint32_t dstspan, uint32_t src, uint32_t srcspan,
-                      uint32_t width, uint32_t height, uint8_t code, bool leftward, bool upward, uint32_t pattern,
-                      uint32_t row);
+#include "chips69000.h"
 
 enum { MEMORY = 2097152 };
 
@@ -108,7 +105,7 @@ __attribute__((noinline)) static void moves(const struct transfer *t) {
 }
 
 __attribute__((noinline)) static void proved(const struct transfer *t) {
-    if (blit_transfer(mem, MEMORY, t->dst, t->dstspan, t->src, t->srcspan, t->width, t->height, t->code, t->leftward,
+    if (chips69000_transfer(mem, MEMORY, t->dst, t->dstspan, t->src, t->srcspan, t->width, t->height, t->code, t->leftward,
                       t->upward, t->pattern, t->row) != 0) {
         fprintf(stderr, "a transfer of the benchmark was refused\n");
         exit(1);

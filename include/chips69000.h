@@ -61,10 +61,13 @@ uint16_t chips69000_memory_read(const uint8_t *memory, size_t memory_length, siz
 
 uint8_t chips69000_memory_write(uint8_t *memory, size_t memory_length, size_t at, uint8_t value);
 
-/* A block transfer at 8 bits a pixel. Width is in bytes, height in lines; an address is the first byte worked on. */
-uint8_t chips69000_transfer(uint8_t *memory, size_t memory_length, uint32_t destination, uint32_t destination_span,
-                            uint32_t source, uint32_t source_span, uint32_t width, uint32_t height, uint8_t code,
-                            bool leftward, bool upward, uint32_t pattern, uint32_t pattern_row);
+/* A block transfer at 8 bits a pixel. Width is in bytes, height in lines; an address is the first byte worked on. The eight numbers are
+ * whole: one out of its range is CHIPS69000_RANGE or CHIPS69000_OUTSIDE, however large, and none is cut. The code and the directions
+ * have the values of their types: C makes of a wider code its low eight bits, and of a direction false where it is 0 and true where it
+ * is anything else. */
+uint8_t chips69000_transfer(uint8_t *memory, size_t memory_length, size_t destination, size_t destination_span, size_t source,
+                            size_t source_span, size_t width, size_t height, uint8_t code, bool leftward, bool upward,
+                            size_t pattern, size_t pattern_row);
 
 /* ---- Scripts and commands. The value is 0 where the number has none. */
 

@@ -1,12 +1,12 @@
 -- Lines of input, each answered by a text. A line of more than 255 bytes is not known. A sitting is what there is between two bytes
--- of input: the bench, the store, the line so far, of which no more bytes are kept than there is room for, and the text of the
--- replies so far. A line feed has the line answered, any other byte goes behind the line. Input is fed while any reply has room
--- behind the text. That input in parts is the same as in one is proofs/PartLaws.
+-- of input, lent bytes included. A line feed has the line answered, any other byte goes behind the line, where there is room for it.
+-- Input is fed while any reply has room behind the text. That input in parts is the same as in one is proofs/PartLaws; how the line
+-- and the text grow, proofs/DeskLaws.
 use Prim.Native.Nat.{ℕ, _+_}
 use mathlib.Core.Bool.{Bool, cond}
-use mathlib.Core.List.{List, [], _∷_, _++_}
+use mathlib.Core.List.{List, [], _∷_}
 use lib.Dec.{ltb, leb, eqb}
-use lib.ListN.{length, take, drop}
+use lib.ListN.{length, take, drop, set}
 use Rattle.chip.specs.State.{Named, named}
 use Rattle.text.specs.Adding.{withAddedIn, behindIn}
 use Rattle.words.specs.Words.{wordsOf}
@@ -48,35 +48,47 @@ outLeft out at a = withAddedIn 8192 out at (textOf a)
 
 -- ---- bytes as they come
 
+-- what there is between two bytes of input: the bench, the store, the bytes lent for a line, of which the first `size` are the line so
+-- far, and the bytes lent for replies, of which the first `next` are the text so far
 pub record Sitting : Type 0 where
   pub bench : Bench
   pub store : List ℕ
   pub line : List ℕ
-  pub text : List ℕ
+  pub size : ℕ
+  pub out : List ℕ
+  pub next : ℕ
 
--- the line with one more byte, where there is room for so many
-abbrev pub kept : ℕ → List ℕ → ℕ → List ℕ
-kept most line c = cond (ltb (length line) most) (line ++ (c ∷ [])) line
+abbrev pub lineSoFar : Sitting → List ℕ
+lineSoFar s = take (s .size) (s .line)
 
-abbrev pub withLine : Sitting → List ℕ → Sitting
-withLine s line = record { bench = s .bench; store = s .store; line = line; text = s .text }
+abbrev pub textSoFar : Sitting → List ℕ
+textSoFar s = take (s .next) (s .out)
 
--- the line is answered, and the next one begins
+abbrev pub withLine : Sitting → List ℕ → ℕ → Sitting
+withLine s line size = record { bench = s .bench; store = s .store; line = line; size = size; out = s .out; next = s .next }
+
+-- a byte goes behind the line so far, where there is room for it
+unfoldable pub byteKept : Sitting → ℕ → Sitting
+byteKept s c = cond (ltb (s .size) (length (s .line))) (withLine s (set (s .line) (s .size) c) (s .size + 1)) s
+
+-- the line is answered, the reply goes behind the text so far, and the next line begins
 unfoldable pub lineDone : Sitting → Sitting
-lineDone s = let a = lineActed (s .bench) (s .store) (s .line) in record {
+lineDone s = let a = lineActed (s .bench) (s .store) (lineSoFar s) in record {
   bench = a .bench;
-  store = storeLeft (s .bench) (s .store) (s .line);
-  line = [];
-  text = s .text ++ textOf a;
+  store = storeLeft (s .bench) (s .store) (lineSoFar s);
+  line = s .line;
+  size = 0;
+  out = outLeft (s .out) (s .next) a;
+  next = answeredIn (s .out) (s .next) a .next;
 }
 
--- a byte is taken, with room for so long a line
-unfoldable pub taken : ℕ → Sitting → ℕ → Sitting
-taken most s c = cond (eqb c 0x0A) (lineDone s) (withLine s (kept most (s .line) c))
+-- a byte is taken
+unfoldable pub taken : Sitting → ℕ → Sitting
+taken s c = cond (eqb c 0x0A) (lineDone s) (byteKept s c)
 
-unfoldable pub takenAll : ℕ → Sitting → List ℕ → Sitting
-takenAll most s [] = s
-takenAll most s (c ∷ cs) = takenAll most (taken most s c) cs
+unfoldable pub takenAll : Sitting → List ℕ → Sitting
+takenAll s [] = s
+takenAll s (c ∷ cs) = takenAll (taken s c) cs
 
 -- ---- bytes while there is room for a reply
 
@@ -88,25 +100,22 @@ pub record Place : Type 0 where
 abbrev pub place : Sitting → ℕ → Place
 place s i = record { sitting = s; from = i }
 
--- every reply finds its room: 8,192 bytes behind the text, in an output of this size
-abbrev pub roomIn : ℕ → Sitting → Bool
-roomIn size s = leb (length (s .text) + 8192) size
+-- every reply finds its room: 8,192 bytes behind the text
+abbrev pub hasRoom : Sitting → Bool
+hasRoom s = leb (s .next + 8192) (length (s .out))
 
-unfoldable pub fed : ℕ → ℕ → Sitting → ℕ → List ℕ → Place
-fed most size s i [] = place s i
-fed most size s i (c ∷ cs) = cond (roomIn size s) (fed most size (taken most s c) (i + 1) cs) (place s i)
+unfoldable pub fed : Sitting → ℕ → List ℕ → Place
+fed s i [] = place s i
+fed s i (c ∷ cs) = cond (hasRoom s) (fed (taken s c) (i + 1) cs) (place s i)
 
--- ---- a sitting on lent bytes: the line so far and the text so far are the first bytes of theirs
-
-abbrev pub sitting : Bench → List ℕ → List ℕ → ℕ → List ℕ → ℕ → Sitting
-sitting b store line size out next = record { bench = b; store = store; line = take size line; text = take next out }
+-- ---- a desk over lent bytes
 
 abbrev pub sittingAt : Desk → List ℕ → List ℕ → List ℕ → Sitting
-sittingAt d store line out = sitting (d .bench) store line (d .size) out (d .next)
+sittingAt d store line out = record { bench = d .bench; store = store; line = line; size = d .size; out = out; next = d .next }
 
 abbrev pub placeAt : Fed → List ℕ → List ℕ → List ℕ → Place
 placeAt f store line out = place (sittingAt (f .desk) store line out) (f .from)
 
--- input from a place on, with room for a line and for the text as they are lent
+-- input from a place on
 abbrev pub fedFrom : Desk → List ℕ → List ℕ → List ℕ → ℕ → List ℕ → Place
-fedFrom d store line out from bytes = fed (length line) (length out) (sittingAt d store line out) from (drop from bytes)
+fedFrom d store line out from bytes = fed (sittingAt d store line out) from (drop from bytes)

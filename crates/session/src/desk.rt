@@ -2,9 +2,10 @@
 // the caller lends. The definitions are specs/Desk.
 ghost use mathlib.Core.Path.{_≡_};
 ghost use Prim.Native.Nat.{_+_};
-ghost use lib.Dec.{leb};
-ghost use lib.ListN.{length, take};
-ghost use Rattle.session.specs.Desk.{requestIn, lineActed, storeLeft, answeredIn, outLeft, kept, placeAt, fedFrom};
+ghost use mathlib.Core.Bool.{cond};
+ghost use lib.Dec.{leb, ltb};
+ghost use lib.ListN.{length, take, set};
+ghost use Rattle.session.specs.Desk.{requestIn, lineActed, storeLeft, answeredIn, outLeft, placeAt, fedFrom};
 use crate::Bench;
 use crate::act;
 use crate::shorter_of;
@@ -60,7 +61,8 @@ pub fn answer(b: Bench, store: &mut [u8], line: &[u8], out: &mut [u8], at: usize
 
 // A byte goes behind the line so far, where there is room for it; how many bytes it then has.
 fn keep(line: &mut [u8], size: usize, c: u8) -> usize
-    ensures { λ r. ⌜ take r (now (line .exit)) ≡ kept (length (now (line .entry))) (take size (now (line .entry))) c ⌝ }
+    ensures { λ r. ⌜ r ≡ cond (ltb size (length (now (line .entry)))) (size + 1) size ⌝ }
+    ensures { λ r. ⌜ now (line .exit) ≡ cond (ltb size (length (now (line .entry)))) (set (now (line .entry)) size c) (now (line .entry)) ⌝ }
 {
     if size < line.len() {
         line[size] = c;

@@ -3,9 +3,8 @@ use mathlib.Core.Path.{sym, ap}
 use borrow.Author.Needs.{needs}
 use borrow.Author.Tests.{le-leb}
 use denote.Ref.{now}
-use lib.ListN.{length}
 use lib.Seq.{length-take-le}
-use Rattle.session.specs.Desk.{Place, sitting}
+use Rattle.session.specs.Desk.{Place, sittingAt}
 use Rattle.session.proofs.PartLaws.{fed-moves}
 use Rattle.workbench.proofs.part.Statement.{statement}
 use Rattle.workbench.proofs.part.Tie as tie
@@ -23,6 +22,6 @@ part-spec =
     (λ c. search needs)
     (λ c. search needs)
     (λ c. let a = c .before .before .before .before .before .before .before .before .before .before .before .before .before .before .before .before .before .before .args in
-    let s = sitting (a .d .bench) (now (a .store)) (now (a .line)) (a .d .size) (now (a .out)) 0 in
+    let s = sittingAt (record { bench = a .d .bench; size = a .d .size; next = 0 }) (now (a .store)) (now (a .line)) (now (a .out)) in
     let e = ap (λ (p : Place). p .from) (c .before .before .before .before .before .before .before .before .before .feed .ensures) in
-    rw e (fed-moves (length (now (a .line))) (length (now (a .out))) s (a .from) (now (a .bytes)) (c .before .before .before .before .before .before .before .before .before .before .before .before .before .before .before .before .before .before .pre .1) (le-leb _ _ (c .before .before .before .before .before .before .before .before .before .before .before .before .before .before .before .before .before .before .pre .0)))))
+    rw e (fed-moves s (a .from) (now (a .bytes)) (c .before .before .before .before .before .before .before .before .before .before .before .before .before .before .before .before .before .before .pre .1) (le-leb _ _ (c .before .before .before .before .before .before .before .before .before .before .before .before .before .before .before .before .before .before .pre .0)))))

@@ -1,8 +1,7 @@
 -- Room for it, and none.
 use native.Mathlib.Omega.{arith}
 use borrow.Author.Needs.{needs}
-use denote.Ref.{now}
-use Rattle.session.proofs.DeskLaws.{kept-more, kept-full}
+use borrow.Author.Tests.{lt-ltb, le-ltb}
 use Rattle.session.proofs.desk.keep.Statement.{statement}
 use Rattle.session.proofs.desk.keep.Tie as tie
 
@@ -13,5 +12,5 @@ keep-spec =
     (λ c. omega arith)
     (λ c. omega arith)
     (λ c. search needs)
-    (λ c. let a = c .before .args in kept-more (now (a .line)) (a .size) (a .c) (c .if1 .taken))
-    (λ c. let a = c .before .args in kept-full (now (a .line)) (a .size) (a .c) (c .if1 .left)))
+    (λ c. (rw (lt-ltb _ _ (c .if1 .taken)), rw (lt-ltb _ _ (c .if1 .taken))))
+    (λ c. (rw (le-ltb _ _ (c .if1 .left)), rw (le-ltb _ _ (c .if1 .left)))))
