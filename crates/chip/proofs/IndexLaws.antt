@@ -1,25 +1,30 @@
--- The six index registers with a port of their own. Document 01, "Ports": index ports can be read; document 02, P5: each keeps the bits
--- that its chapter shows. An index reads back the bits of it that are kept, and a write to one leaves the others: over the indexes first,
--- then through the ports. An index and then a byte through the ports are a write by name, and a long index is the short one onto which it folds.
+-- The six index registers with a port of their own. Document 01, "Ports": index ports can be read; document 02, P5: each keeps
+-- the bits that its chapter shows. An index reads back the bits of it that are kept, and a write to one leaves the others: over
+-- the indexes first, then through the ports. An index and then a byte through the ports are a write by name, and a long index
+-- is the short one onto which it folds. The CR pair that is not picked has no index to read or write, and MSR bit 0 picks.
 use Prim.Native.Nat.{ℕ}
 use native.Mathlib.Omega.{arith}
-use mathlib.Core.Bool.{Bool, true, false}
+use mathlib.Core.Bool.{Bool, true, false, cond}
 use mathlib.Core.Path.{_≡_, refl, sym, ap, _∙_}
+use lib.Dec.{eqb}
 use borrow.Author.Tests.{ne-eqb}
-use Rattle.registers.specs.Groups.{numberOf, is}
+use Rattle.lists.specs.Bits.{isSet}
+use Rattle.registers.specs.Groups.{numberOf, is, rowOf}
 use Rattle.registers.specs.Indexes.{indexKept}
+use Rattle.registers.specs.WriteRule.{lockedBy, writableNow}
 use Rattle.registers.proofs.IndexLaws.{kept-again}
 use Rattle.registers.specs.declared.Group.{Group}
 use Rattle.registers.specs.declared.Group.the-variants.{Cr, Sr, Gr, Xr, Fr, Mr, Msr, Palmask, Ar}
-use Rattle.ports.specs.Ports.{target}
+use Rattle.ports.specs.Ports.{ports, target}
 use Rattle.ports.specs.declared.Target.the-variants.{Index, Data}
-use Rattle.chip.specs.State.{named, join, withIndexes, withTurn, indexByte, withIndexByte, indexOf, withIndex}
-use Rattle.chip.specs.Names.{received, portsOpen, colour}
+use Rattle.chip.specs.State.{Named, named, join, withNamed, withIndexes, withTurn, indexByte, withIndexByte, indexOf, withIndex}
+use Rattle.chip.specs.Names.{locked, received, portsOpen, colour}
 use Rattle.chip.specs.Access.{portWritten, portRead, wrote, seen}
 use Rattle.chip.specs.declared.Chip.{Chip}
 use Rattle.chip.specs.declared.Indexes.{Indexes}
 use Rattle.chip.specs.declared.access.Answer.the-variants.{Done}
 use Rattle.chip.specs.declared.access.Seen.{Seen}
+use Rattle.chip.proofs.NameLaws.{received-bit, received-other}
 use Rattle.chip.proofs.AccessLaws.{write-open, read-open, write-data}
 
 -- the bytes that hold the indexes, after one index is written: what is kept of it, and the others as they were
@@ -100,3 +105,45 @@ pub index-folds : (c : Chip) (p v : ℕ) (g : Group) → portsOpen (named c) ≡
 index-folds c p v g free writes =
     write-index c p v g free writes ∙ ap (λ (x : Indexes). wrote Done (withIndexes c x)) (sym (index-kept g (c .indexes) v))
     ∙ sym (write-index c p (indexKept g v) g free writes)
+
+-- the pair that MSR bit 0 does not pick reads FFh and writes nothing, its index port like its data port
+pub pair-not-picked : (c : Chip) → portsOpen (named c) ≡ true → (b : Bool) → colour (named c) ≡ b → (v : ℕ)
+    → (portRead c (cond b 0x3B4 0x3D4) ≡ seen Done 0xFF c) × (portWritten c (cond b 0x3B4 0x3D4) v ≡ wrote Done c)
+    × (portRead c (cond b 0x3B5 0x3D5) ≡ seen Done 0xFF c) × (portWritten c (cond b 0x3B5 0x3D5) v ≡ wrote Done c)
+unfolding target ports
+pair-not-picked c free true picks v =
+    (read-open c 0x3B4 free ∙ rw picks, write-open c 0x3B4 free v ∙ rw picks, read-open c 0x3B5 free ∙ rw picks, write-open c 0x3B5 free v ∙ rw picks)
+pair-not-picked c free false picks v =
+    (read-open c 0x3D4 free ∙ rw picks, write-open c 0x3D4 free v ∙ rw picks, read-open c 0x3D5 free ∙ rw picks, write-open c 0x3D5 free v ∙ rw picks)
+
+-- MSR bit 0 picks the pair, as 3C2h last received it: 1 is 3D4h and 3D5h, 0 is 3B4h and 3B5h. There is one CR index behind both
+MSR-sets-pair : (n : Named) (v : ℕ) → colour (received Msr n 0x00 v) ≡ isSet 0 v
+unfolding colour locked lockedBy writableNow rowOf
+MSR-sets-pair n v = ap (λ (d : ℕ). eqb d 1) (received-bit 0 Msr n 0x00 v (omega arith) (omega arith))
+
+MSR-leaves-ports : (n : Named) (v : ℕ) → portsOpen (received Msr n 0x00 v) ≡ portsOpen n
+unfolding portsOpen
+MSR-leaves-ports n v = ap (isSet 1) (received-other Msr Xr n 0x00 v 0x70 (λ p q. omega arith))
+
+pub MSR-picks-pair : (c : Chip) → portsOpen (named c) ≡ true → (v : ℕ) (b : Bool) → isSet 0 v ≡ b
+    → (portRead (portWritten c 0x3C2 v .chip) (cond b 0x3D4 0x3B4) .value ≡ indexOf Cr (c .indexes))
+    × (portRead (portWritten c 0x3C2 v .chip) (cond b 0x3B4 0x3D4) .value ≡ 0xFF)
+unfolding target ports indexKept
+MSR-picks-pair c free v b e =
+    rw written (ap (λ (s : Seen). s .value) (picked b picks), ap (λ (s : Seen). s .value) (pair-not-picked d open-still b picks 0 .0))
+  where
+    d : Chip
+    d = withNamed c (received Msr (named c) 0x00 v)
+
+    written : portWritten c 0x3C2 v ≡ wrote Done d
+    written = write-open c 0x3C2 free v
+
+    open-still : portsOpen (named d) ≡ true
+    open-still = MSR-leaves-ports (named c) v ∙ free
+
+    picks : colour (named d) ≡ b
+    picks = MSR-sets-pair (named c) v ∙ e
+
+    picked : (b : Bool) → colour (named d) ≡ b → portRead d (cond b 0x3D4 0x3B4) ≡ seen Done (indexOf Cr (c .indexes)) d
+    picked true p = read-open d 0x3D4 open-still ∙ rw p
+    picked false p = read-open d 0x3B4 open-still ∙ rw p

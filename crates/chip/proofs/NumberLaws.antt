@@ -5,7 +5,9 @@ use native.Mathlib.Omega.{arith}
 use mathlib.Core.Bool.{Bool, true, false, cond}
 use mathlib.Core.Path.{_≡_, refl, ap, _∙_}
 use mathlib.Core.Logic.{_↔_}
-use Rattle.ports.specs.Ports.{target}
+use Rattle.registers.proofs.Stretches.{has}
+use Rattle.ports.specs.Ports.{ports, target}
+use Rattle.ports.proofs.PortLaws.{listed, listedPorts, listed-exactly}
 use Rattle.ports.specs.declared.Target.{Target}
 use Rattle.ports.specs.declared.Target.the-variants.{Index, Data, ReadIndex, WriteIndex, Paldata, Attribute, Status, NotPicked, NotListed}
 use Rattle.chip.specs.State.{named}
@@ -14,7 +16,7 @@ use Rattle.chip.specs.Access.{numberOf, isListed, accessNumber, writeTo,
 use Rattle.chip.specs.declared.Chip.{Chip}
 use Rattle.chip.specs.declared.access.Wrote.{Wrote}
 use Rattle.chip.specs.declared.access.Seen.{Seen}
-use Rattle.chip.specs.declared.access.Answer.the-variants.{Closed}
+use Rattle.chip.specs.declared.access.Answer.the-variants.{Unlisted, Closed}
 use Rattle.chip.proofs.AccessLaws.{write-closed, read-closed, write-open, read-open}
 
 -- the number by where a port leads
@@ -70,6 +72,24 @@ write-answered c p v e = (e, ap (λ (w : Wrote). numberOf (w .answer)) e ∙ wri
 
 pub read-answered : (c : Chip) (p : ℕ) {r : Seen} → r ≡ portRead c p → (r ≡ portRead c p) × (numberOf (r .answer) ≡ accessNumber false c p)
 read-answered c p e = (e, ap (λ (s : Seen). numberOf (s .answer)) e ∙ read-number c p)
+
+-- listed is what document 01's table lists (`documented` of `ports`), whichever pair is picked: the number by that list
+listed-same : (t : Target) → isListed t ≡ listed t
+listed-same (Index g) = refl
+listed-same (Data g) = refl
+listed-same ReadIndex = refl
+listed-same WriteIndex = refl
+listed-same Paldata = refl
+listed-same Attribute = refl
+listed-same Status = refl
+listed-same NotPicked = refl
+listed-same NotListed = refl
+
+pub number-listed : (write : Bool) (c : Chip) (p : ℕ) → accessNumber write c p ≡ cond (portsOpen (named c)) (cond (has p (listedPorts write)) 0 1) 2
+unfolding accessNumber
+number-listed write c p =
+    ap (λ (z : Bool). cond (portsOpen (named c)) (cond z 0 1) 2)
+    (listed-same (target (colour (named c)) write p) ∙ listed-exactly (colour (named c)) write p)
 
 -- each number exactly when: 2 if the ports are closed, 1 if they are open and the port or its direction is not listed, 0 if they
 -- are open and it is
@@ -134,3 +154,8 @@ pub read-refused : (c : Chip) (p : ℕ) → (numberOf (portRead c p .answer) ≡
 read-refused c p other =
     refused false c p _ (λ h. other (read-number c p ∙ h)) (λ shut. rw (read-closed c p shut) (refl, refl))
     (λ free unlisted. rw (read-open c p free, unlisted) (refl, refl))
+
+-- MSR is written at 3C2h and read at 3CCh: the other direction of each is refused with 1
+pub MSR-one-way : (c : Chip) → portsOpen (named c) ≡ true → (v : ℕ) → (portRead c 0x3C2 ≡ seen Unlisted 0xFF c) × (portWritten c 0x3CC v ≡ wrote Unlisted c)
+unfolding target ports
+MSR-one-way c free v = (read-open c 0x3C2 free, write-open c 0x3CC free v)

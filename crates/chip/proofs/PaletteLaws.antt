@@ -6,6 +6,7 @@ use native.Mathlib.Omega.{arith}
 use mathlib.Core.Bool.{Bool, true, false}
 use mathlib.Core.Path.{_≡_, refl, ap, _∙_}
 use lib.Dec.{eqb}
+use borrow.Author.Tests.{ne-eqb}
 use lib.ListN.{length}
 use lib.Seq.{getD-set-same, getD-set-other}
 use Rattle.lists.specs.Bits.{isSet}
@@ -184,3 +185,11 @@ module _ (c : Chip) (e : ℕ) (free : portsOpen (named c) ≡ true) where
         paldata-read (named c) (c .indexes) (at (c .loading) e true 1) free,
         paldata-read (named c) (c .indexes) (at (c .loading) e true 2) free,
       ) (refl, refl, refl)
+
+-- a position outside the three counts as red: the byte is held as red and nothing is stored, the red component is read, and
+-- green follows
+pub outside-counts-as-red : (n : Named) (l : Loading) (v : ℕ) → 2 < l .position
+    → (held l v .red ≡ v) × (loaded n l v ≡ n) × (paldata n l ≡ byMode (eightBit n) (entry n (l .index) .red)) × (moved l .position ≡ 1)
+unfolding loaded
+outside-counts-as-red n l v h =
+    rw (ne-eqb (l .position) 2 (omega arith), ne-eqb (l .position) 1 (omega arith)) (refl, refl, refl, refl)

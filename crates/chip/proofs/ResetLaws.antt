@@ -1,12 +1,13 @@
 -- What a reset leaves: each register its reset byte, at all 256 indexes; the pins in XR08, XR70 and XR71; 00h at an unlisted
--- index; and a byte in each. A group's bank is one list filled from its reset bytes, and the rest follows from that.
+-- index; and a byte in each. A group's bank is one list filled from its reset bytes, and the rest follows from that. Of the
+-- palette nothing survives: every entry is 0, and so are its index and the held bytes.
 use Prim.Native.Nat.{ℕ, zero, suc, _<_, _≤_}
 use native.Mathlib.Omega.{arith}
 use mathlib.Core.Bool.{Bool, true, false, cond}
 use mathlib.Core.Path.{_≡_, refl, sym, ap, _∙_}
 use mathlib.Core.List.{List, [], _∷_, _++_}
 use lib.Dec.{eqb, ltb}
-use lib.ListN.{getD, length, length-append, List·getD-append, List·getD-eq-default}
+use lib.ListN.{getD, length, length-append, getD-replicate, List·getD-append, List·getD-eq-default}
 use lib.Seq.{getD-at}
 use lib.Bits.{bitAnd, bitOr, and-le-l, or-lt}
 use borrow.Author.Tests.{eqb-true, eqb-false, ltb-true, ltb-false}
@@ -17,8 +18,9 @@ use Rattle.registers.specs.declared.Row.{Row}
 use Rattle.registers.specs.declared.Row.the-variants.{Listed, Unlisted}
 use Rattle.registers.specs.declared.Group.{Group}
 use Rattle.registers.specs.declared.Group.the-variants.{Cr, Sr, Gr, Xr, Fr, Mr, Msr, Palmask, Ar}
-use Rattle.chip.specs.State.{named}
+use Rattle.chip.specs.State.{named, indexByte}
 use Rattle.chip.specs.Names.{register}
+use Rattle.chip.specs.Palette.{rgb, entry}
 use Rattle.chip.specs.Reset.{resetByte, filled, reset}
 use Rattle.chip.proofs.Banks.{bank, place, room, place-room, register-bank, is-same}
 use Rattle.chip.proofs.NameLaws.{Bytes}
@@ -130,3 +132,31 @@ filled-bytes f n i bytes = go (ltb i n) refl
 
 pub reset-bytes : (first second : ℕ) → first < 0x100 → second < 0x100 → Bytes (named (reset first second))
 reset-bytes p q hp hq g i = rw (register-filled p q g i) (filled-bytes (resetByte p q g) (room g) (place g i) (resetByte-byte p q hp hq g))
+
+-- the palette: no entry survives, and nothing of a colour half loaded
+pub entries-reset : (first second e : ℕ) → e < 0x100 → entry (named (reset first second)) e ≡ rgb 0 0 0
+unfolding reset
+entries-reset first second e h = getD-replicate 256 e (rgb 0 0 0) (rgb 0 0 0) h
+
+pub loading-reset : (first second : ℕ)
+    → (reset first second .loading .index ≡ 0) × (reset first second .loading .position ≡ 0)
+    × (reset first second .loading .red ≡ 0) × (reset first second .loading .green ≡ 0)
+unfolding reset
+loading-reset first second = (refl, refl, refl, refl)
+
+-- the indexes are 0, there is no picture, and the turn of 3C0h is the index's
+pub indexes-reset : (first second : ℕ) (g : Group) → indexByte g (reset first second .indexes) ≡ 0x00
+unfolding reset
+indexes-reset first second Cr = refl
+indexes-reset first second Sr = refl
+indexes-reset first second Gr = refl
+indexes-reset first second Xr = refl
+indexes-reset first second Fr = refl
+indexes-reset first second Mr = refl
+indexes-reset first second Msr = refl
+indexes-reset first second Palmask = refl
+indexes-reset first second Ar = refl
+
+pub turn-reset : (first second : ℕ) → (reset first second .indexes .turn ≡ false) × (reset first second .picture ≡ false)
+unfolding reset
+turn-reset first second = (refl, refl)

@@ -2,17 +2,19 @@
 -- register with an index below 256 has its place, and the palette has 256 entries: what `received-same`, `received-bit` and
 -- `coloured-same` ask for. No index passes 255, so this holds of the register and the entry that an index names. And accesses leave in
 -- the byte that holds an index no bit that its index register does not keep.
-use Prim.Native.Nat.{ℕ, _<_}
+use Prim.Native.Nat.{ℕ, _%_, _<_}
 use native.Mathlib.Omega.{arith}
 use mathlib.Core.Bool.{Bool, true, false, cond}
-use mathlib.Core.Path.{_≡_, refl, sym, ap, _∙_}
+use mathlib.Core.Path.{_≡_, refl, sym, ap, ap₂, _∙_}
 use mathlib.Core.List.{List}
 use lib.Dec.{eqb}
 use borrow.Author.Tests.{eqb-true}
 use lib.ListN.{length, set, length-set, length-replicate}
-use Rattle.registers.specs.Groups.{groupAt, is}
+use Rattle.lists.specs.Bits.{bit, isSet}
+use Rattle.registers.specs.CrtController.{CR}
+use Rattle.registers.specs.Groups.{groupAt, is, rowOf}
 use Rattle.registers.specs.Indexes.{fits}
-use Rattle.registers.specs.WriteRule.{written}
+use Rattle.registers.specs.WriteRule.{leftOpen, writableNow, written}
 use Rattle.registers.proofs.IndexLaws.{kept-fits, fits-kept, kept-byte}
 use Rattle.registers.proofs.TableLaws.{group-numbered}
 use Rattle.registers.specs.declared.Group.{Group}
@@ -21,7 +23,7 @@ use Rattle.ports.specs.Ports.{target}
 use Rattle.ports.specs.declared.Target.{Target}
 use Rattle.ports.specs.declared.Target.the-variants.{Index, Data, ReadIndex, WriteIndex, Paldata, Attribute, Status, NotPicked, NotListed}
 use Rattle.chip.specs.State.{Named, named, indexByte, indexOf, withIndex}
-use Rattle.chip.specs.Names.{register, received, writableAt, portsOpen, colour, eightBit}
+use Rattle.chip.specs.Names.{register, received, locked, writableAt, portsOpen, colour, eightBit}
 use Rattle.chip.specs.Palette.{rgb, byMode, entry, coloured, held, moved}
 use Rattle.chip.specs.Attribute.{attributeSet, attributeAimed}
 use Rattle.chip.specs.Access.{writeTo, portWritten}
@@ -30,11 +32,13 @@ use Rattle.chip.specs.Reach.{Reach, fresh, wrote, saw}
 use Rattle.chip.specs.declared.Chip.{Chip}
 use Rattle.chip.specs.declared.Indexes.{Indexes}
 use Rattle.chip.specs.declared.Loading.{Loading}
+use Rattle.chip.specs.declared.Rgb.{Rgb}
+use Rattle.chip.specs.declared.access.Seen.{Seen}
 use Rattle.chip.proofs.Banks.{bank, place, room, place-room, bank-replaced, bank-same}
-use Rattle.chip.proofs.NameLaws.{Has, received-same}
+use Rattle.chip.proofs.NameLaws.{Has, received-same, received-bit, coloured-keeps-register}
 use Rattle.chip.proofs.AccessLaws.{write-cases, state-read, write-data, named-written, read-keeps-all}
 use Rattle.chip.proofs.IndexLaws.{byte-written, byte-other, index-turn}
-use Rattle.chip.proofs.PaletteLaws.{coloured-same, after, colour-by-ports}
+use Rattle.chip.proofs.PaletteLaws.{coloured-same, after, read, colour-by-ports, colour-read-by-ports}
 use Rattle.chip.proofs.ResetLaws.{length-filled, bank-reset}
 
 -- a register that receives a byte, and a colour that is stored, leave every table and the palette as long as it was
@@ -153,6 +157,11 @@ reach-has-current {c = c} r g = reach-has r g (indexOf g (c .indexes)) (kept-byt
 pub reach-entry : {first second : ℕ} {c : Chip} → Reach first second c → c .loading .index < length (c .palette)
 reach-entry r = rw (reach-palette r) (reach-within r .colours)
 
+CR07-bit-4-always : (lock : Bool) → isSet 4 (writableNow Cr lock 0x07) ≡ true
+unfolding writableNow leftOpen rowOf CR
+CR07-bit-4-always true = refl
+CR07-bit-4-always false = refl
+
 -- a data port's write and three bytes to PALDATA, in a reached state with open ports: the register reads the write rule's byte, the
 -- entry holds the colour by the mode
 module _ {first second : ℕ} {c : Chip} (r : Reach first second c) (free : portsOpen (named c) ≡ true) where
@@ -161,9 +170,61 @@ module _ {first second : ℕ} {c : Chip} (r : Reach first second c) (free : port
       ≡ written (register g (named c) (indexOf g (c .indexes))) v (writableAt g (named c) (indexOf g (c .indexes)))
   data-written g p v leads = rw (write-data c p free g v leads) (received-same g (named c) (indexOf g (c .indexes)) v (reach-has-current r g))
 
+  -- CR07 bit 4 can always be written, whatever CR11 holds
+  pub CR07-bit-4-written : (p v : ℕ) → target (colour (named c)) true p ≡ Data Cr → indexOf Cr (c .indexes) ≡ 0x07
+      → bit 4 (register Cr (named (portWritten c p v .chip)) 0x07) ≡ bit 4 v
+  CR07-bit-4-written p v leads at =
+      rw (write-data c p free Cr v leads, at)
+      (received-bit 4 Cr (named c) 0x07 v (omega arith) (reach-has r Cr 0x07 (omega arith)) ∙ rw (CR07-bit-4-always (locked Cr (named c))))
+
   pub colour-written : (e red green blue : ℕ) → e < 0x100
       → entry (named (after (after (after (portWritten c 0x3C8 e .chip) red) green) blue)) e
       ≡ rgb (byMode (eightBit (named c)) red) (byMode (eightBit (named c)) green) (byMode (eightBit (named c)) blue)
   colour-written e red green blue h =
       ap (λ (d : Chip). entry (named d) e) (colour-by-ports c e free red green blue)
       ∙ coloured-same (named c) e red green blue (rw (reach-palette r) h)
+
+-- a colour written so reads back through 3C7h and 3C9h: whole in eight-bit mode, modulo 64 in six-bit mode
+module _ {first second : ℕ} {c : Chip} (r : Reach first second c) (free : portsOpen (named c) ≡ true) (e red green blue : ℕ) (h : e < 0x100) where
+  abbrev stored : Chip
+  stored = after (after (after (portWritten c 0x3C8 e .chip) red) green) blue
+
+  stored-named : named stored ≡ coloured (named c) e red green blue
+  stored-named = ap named (colour-by-ports c e free red green blue)
+
+  stored-open : portsOpen (named stored) ≡ true
+  unfolding portsOpen
+  stored-open = ap portsOpen stored-named ∙ ap (isSet 1) (coloured-keeps-register Xr (named c) e red green blue 0x70) ∙ free
+
+  stored-mode : eightBit (named stored) ≡ eightBit (named c)
+  unfolding eightBit
+  stored-mode = ap eightBit stored-named ∙ ap (isSet 7) (coloured-keeps-register Xr (named c) e red green blue 0x80)
+
+  reads-as : (part : Rgb → ℕ) (z : Bool) → eightBit (named c) ≡ z
+      → byMode (eightBit (named stored)) (part (entry (named stored) e)) ≡ byMode z (part (rgb (byMode z red) (byMode z green) (byMode z blue)))
+  reads-as part z mode =
+      ap₂ (λ (b : Bool) (x : Rgb). byMode b (part x)) (stored-mode ∙ mode)
+      (colour-written r free e red green blue h ∙ ap (λ (b : Bool). rgb (byMode b red) (byMode b green) (byMode b blue)) mode)
+
+  back : (z : Bool) → eightBit (named c) ≡ z
+      → (read (portWritten stored 0x3C7 e .chip) .value ≡ byMode z (byMode z red))
+      × (read (read (portWritten stored 0x3C7 e .chip) .chip) .value ≡ byMode z (byMode z green))
+      × (read (read (read (portWritten stored 0x3C7 e .chip) .chip) .chip) .value ≡ byMode z (byMode z blue))
+  back z mode =
+      let (one, two, three) = colour-read-by-ports stored e stored-open in
+      (one ∙ reads-as (λ x. x .red) z mode, two ∙ reads-as (λ x. x .green) z mode, ap (λ (s : Seen). s .value) three ∙ reads-as (λ x. x .blue) z mode)
+
+  pub colour-reads-back : eightBit (named c) ≡ true
+      → (read (portWritten stored 0x3C7 e .chip) .value ≡ red)
+      × (read (read (portWritten stored 0x3C7 e .chip) .chip) .value ≡ green)
+      × (read (read (read (portWritten stored 0x3C7 e .chip) .chip) .chip) .value ≡ blue)
+  colour-reads-back mode = back true mode
+
+  pub colour-reads-back-six : eightBit (named c) ≡ false
+      → (read (portWritten stored 0x3C7 e .chip) .value ≡ red % 64)
+      × (read (read (portWritten stored 0x3C7 e .chip) .chip) .value ≡ green % 64)
+      × (read (read (read (portWritten stored 0x3C7 e .chip) .chip) .chip) .value ≡ blue % 64)
+  colour-reads-back-six mode =
+      let (one, two, three) = back false mode in
+      let once : (x : ℕ) → x % 64 % 64 ≡ x % 64 = λ x. omega arith in
+      (one ∙ once red, two ∙ once green, three ∙ once blue)

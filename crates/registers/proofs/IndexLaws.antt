@@ -78,6 +78,13 @@ kept-high g k v h =
     ∙ ap (λ (m : ℕ). m / 2 ^ (k - n) % 2) none
     ∙ zero-bit (k - n)
 
+-- the bits that each chapter shows, as what is kept of FFh: CRX 7-0 (chapter 9), SRX 2-0 (10), GRX 3-0 (11), XRX 7-0 (14), ARX
+-- 4-0 (12), bit 5 apart; FR and MR have no page, and keep document 01's eight; MSR and PALMASK have no index
+pub kept-of-FF : (indexKept Cr 0xFF ≡ 0xFF) × (indexKept Sr 0xFF ≡ 0x07) × (indexKept Gr 0xFF ≡ 0x0F) × (indexKept Xr 0xFF ≡ 0xFF)
+    × (indexKept Fr 0xFF ≡ 0xFF) × (indexKept Mr 0xFF ≡ 0xFF) × (indexKept Ar 0xFF ≡ 0x1F) × (indexKept Msr 0xFF ≡ 0x00) × (indexKept Palmask 0xFF ≡ 0x00)
+unfolding indexKept
+kept-of-FF = (refl, refl, refl, refl, refl, refl, refl, refl, refl)
+
 -- ---- no register is out of reach
 abbrev within : Group → List Register → Bool
 within g [] = true

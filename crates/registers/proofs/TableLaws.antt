@@ -73,6 +73,12 @@ pub MR-table : Table MR 55
 unfolding MR
 MR-table = record { registers = refl; order = refl; numbers = refl }
 
+-- document 01's numbers of the groups, and document 02's 8 for AR
+pub groups-documented : (groupAt 0 ≡ Cr) × (groupAt 1 ≡ Sr) × (groupAt 2 ≡ Gr) × (groupAt 3 ≡ Xr) × (groupAt 4 ≡ Fr) × (groupAt 5 ≡ Mr)
+    × (groupAt 6 ≡ Msr) × (groupAt 7 ≡ Palmask) × (groupAt 8 ≡ Ar)
+unfolding groupAt
+groups-documented = (refl, refl, refl, refl, refl, refl, refl, refl, refl)
+
 -- the group of a group's number is the group
 pub group-numbered : (g : Group) → groupAt (numberOf g) ≡ g
 unfolding groupAt
