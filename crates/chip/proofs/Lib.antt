@@ -1,7 +1,7 @@
 -- The laws of this crate: of names (NameLaws), accesses (AccessLaws), numbers (NumberLaws), indexes (IndexLaws), the attribute
 -- port (AttributeLaws), the palette by ports (PaletteLaws) and its index (PaletteIndexLaws), the colour shown (ShownLaws), the
--- reset (ResetLaws) and the promise of the method (ResetPromise), sizes (SizeLaws) and reached states (ReachLaws). Banks and
--- Reached are for their proofs. The other folders have a function's proof each.
+-- reset (ResetLaws), sizes (SizeLaws) and reached states (ReachLaws). Banks and Reached are for their proofs. The other folders
+-- have a function's proof each.
 pub mod Reached
 pub mod Banks
 pub mod NameLaws
@@ -13,6 +13,5 @@ pub mod PaletteLaws
 pub mod PaletteIndexLaws
 pub mod ShownLaws
 pub mod ResetLaws
-pub mod ResetPromise
 pub mod ReachLaws
 pub mod SizeLaws

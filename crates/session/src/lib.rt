@@ -55,7 +55,8 @@ fn clear(store: &mut [u8], n: usize)
 fn restart(b: Bench, first: u8, second: u8) -> Acted
     ensures { λ r. ⌜ r ≡ afterReset b first second ⌝ }
 {
-    let chip = Chip::new(first, second);
+    let before = b.chip;
+    let chip = before.reset(first, second);
     Acted {
         bench: Bench { chip, lent: b.lent },
         reply: Reply::Number(0),

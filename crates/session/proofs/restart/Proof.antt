@@ -8,4 +8,4 @@ restart-spec =
     tie.close
     (tie.spec
     (λ c κs. search needs)
-    (λ c. rw (c .new .ensures)))
+    (λ c. rw (c .reset .ensures)))
