@@ -1,11 +1,13 @@
 /* An emulator host in small: what a program does that links libchips69000.a.
  *
- * It resets a chip, plays a script file on it, asks the chip for the picture's size, draws a caption into video memory with linear
- * writes and block transfers, and writes what a post would show as a PPM file. The order below is that order; main is last.
+ * It resets a chip, lets a guest at its ports, plays a script file on it, asks the chip for the picture's size by name, draws a
+ * caption into video memory with linear writes and block transfers, switches the picture on, and writes what a post would show as
+ * a PPM file. The order below is that order; main is last.
  *
  *     host SCRIPT [PICTURE]      without PICTURE the picture goes to standard output
  *
- * Every number that the library returns is looked at: a refusal ends the program with one line on standard error and status 1.
+ * Every number that the library returns is looked at. What the host itself asks for may not be refused: that ends the program
+ * with one line on standard error and status 1. What the guest asks for may be: a port that is not listed is another device's.
  * The file is C11 and also C++.
  */
 #include <stdarg.h>
@@ -36,6 +38,7 @@ static const char *meaning(unsigned number)
     case CHIPS69000_ROOM: return "the lent output is too small";
     case CHIPS69000_COMMAND: return "a command of no known form";
     case CHIPS69000_IDLE: return "the step can do nothing, no bit of its register can be written";
+    case CHIPS69000_NO_GROUP: return "no group has this number";
     case CHIPS69000_NO_STATE: return "bytes of this length are no state";
     default: return "a number that the header does not name";
     }
@@ -53,7 +56,65 @@ static void fail(const char *format, ...)
     exit(1);
 }
 
-/* ---- The chip: a script is played, and its registers are asked. */
+/* ---- The chip's registers by name, for what the host itself wants to know. */
+
+/* A register by name, the group as the header numbers it. The ports would answer too, but behind an index, and an index that the
+ * host has moved sends the guest's next data byte into another register. By name nothing moves. */
+enum { CR, SR, GR, XR, FR, MR, MSR, PALMASK, AR };
+
+static uint8_t ask(uint8_t group, uint8_t index)
+{
+    unsigned word = chips69000_register(state, sizeof state, group, index); /* the byte, plus 256 times the number */
+    unsigned number = word >> 8;
+    if (number != CHIPS69000_DONE) fail("register %02Xh of group %u: %s (number %u)", (unsigned)index, (unsigned)group,
+                                        meaning(number), number);
+    return (uint8_t)word;
+}
+
+/* ---- The guest's ports. */
+
+/* The port accesses of the emulated processor end here. A port that is not listed is another device's: an emulator hands the
+ * access on to the next one. Here there is none, and a chip whose ports are closed answers as little: a write is lost, and a read
+ * finds the FFh of a bus that nobody drives. It does not end the emulator: every VGA BIOS reads 3CAh, which is not listed. */
+static void out(uint16_t port, uint8_t value)
+{
+    unsigned number = chips69000_port_write(state, sizeof state, port, value);
+    if (number == CHIPS69000_UNLISTED || number == CHIPS69000_CLOSED) return;
+    if (number != CHIPS69000_DONE) fail("write to port %03Xh: %s (number %u)", (unsigned)port, meaning(number), number);
+}
+
+static uint8_t in(uint16_t port)
+{
+    unsigned word = chips69000_port_read(state, sizeof state, port); /* the byte, plus 256 times the number */
+    unsigned number = word >> 8;
+    if (number == CHIPS69000_UNLISTED || number == CHIPS69000_CLOSED) return 0xFF;
+    if (number != CHIPS69000_DONE) fail("read of port %03Xh: %s (number %u)", (unsigned)port, meaning(number), number);
+    return (uint8_t)word;
+}
+
+/* The chip's ports are a byte wide. A word is two accesses, the low byte first: so a word at an index port is the index, and then
+ * the data at the port behind it. */
+static void out_word(uint16_t port, uint16_t value)
+{
+    out(port, (uint8_t)value);
+    out((uint16_t)(port + 1), (uint8_t)(value >> 8));
+}
+
+static uint16_t in_word(uint16_t port)
+{
+    uint8_t low = in(port);
+    return (uint16_t)(low | in((uint16_t)(port + 1)) << 8);
+}
+
+/* What a guest does as it starts: it reads the feature control, and goes on with whatever comes; it sets SR02 by a word. */
+static void start_guest(void)
+{
+    in(0x3CA);
+    out_word(0x3C4, 0x0F02);
+    if (ask(SR, 0x02) != 0x0F) fail("the guest's word went astray");
+}
+
+/* ---- A script is played, and the chip is asked what it set. */
 
 enum { BLOCK = 512, BLOCKS = 12, STEPS = 1008, STEP_ROOM = 32 };
 
@@ -92,47 +153,60 @@ static void play(const char *path, size_t *steps, size_t *commands)
     look_at_script(path, number, value);
 }
 
-/* The port accesses of the emulated processor end in these two. */
-static void out(uint16_t port, uint8_t value)
-{
-    unsigned number = chips69000_port_write(state, sizeof state, port, value);
-    if (number != CHIPS69000_DONE) fail("write to port %03Xh: %s (number %u)", (unsigned)port, meaning(number), number);
-}
-
-static uint8_t in(uint16_t port)
-{
-    unsigned word = chips69000_port_read(state, sizeof state, port); /* the byte, plus 256 times the number */
-    if (word >> 8 != CHIPS69000_DONE) fail("read of port %03Xh: %s (number %u)", (unsigned)port, meaning(word >> 8), word >> 8);
-    return (uint8_t)word;
-}
-
-/* A register through its index port; the data port is the next one. */
-static uint8_t indexed(uint16_t port, uint8_t index)
-{
-    out(port, index);
-    return in((uint16_t)(port + 1));
-}
-
 /* The caption below is made for this picture, with a byte a pixel. The picture is the first part of video memory, line by line. */
 enum { WIDTH = 640, HEIGHT = 480 };
 
 static void look_at_picture(void)
 {
-    uint16_t cr = in(0x3CC) & 0x01 ? 0x3D4 : 0x3B4; /* MSR bit 0 picks the CR pair */
-    unsigned high = indexed(cr, 0x07);              /* bits 1 and 6 are bits 8 and 9 of the last line shown */
-    unsigned width = (indexed(cr, 0x01) + 1u) * 8;
-    unsigned height = (indexed(cr, 0x12) | (high & 0x02) << 7 | (high & 0x40) << 3) + 1;
-    unsigned depth = indexed(0x3D6, 0x81) & 0x0F; /* XR81: 2 is 8 bits a pixel */
+    unsigned high = ask(CR, 0x07); /* bits 1 and 6 are bits 8 and 9 of the last line shown */
+    unsigned width = (ask(CR, 0x01) + 1u) * 8;
+    unsigned height = (ask(CR, 0x12) | (high & 0x02) << 7 | (high & 0x40) << 3) + 1;
+    unsigned depth = ask(XR, 0x81) & 0x0F; /* XR81: 2 is 8 bits a pixel */
 
     if (width != WIDTH || height != HEIGHT || depth != 2)
         fail("the caption is for %d by %d at 8 bits a pixel; the script sets %u by %u and XR81 bits 3-0 to %u", WIDTH, HEIGHT,
              width, height, depth);
 }
 
+/* Bit 5 of the attribute index, video enable, decides whether there is a picture. A reset leaves it 0 and a script as it is, so
+ * whoever owns the screen sets it: a guest's own program, or the host as here. A read of input status 1, at the port that MSR bit
+ * 0 picks, brings the turn of 3C0h to the index, and afterwards back to it. */
+enum { VIDEO_ENABLE = 0x20 };
+
+static void switch_on(void)
+{
+    uint16_t status = ask(MSR, 0) & 0x01 ? 0x3DA : 0x3BA;
+    in(status);
+    out(0x3C0, VIDEO_ENABLE);
+    in(status);
+}
+
+/* A read of 3C0h gives the attribute index and moves nothing. Closed ports gave nobody a way to set it. */
+static bool is_on(void)
+{
+    unsigned word = chips69000_port_read(state, sizeof state, 0x3C0);
+    return word >> 8 == CHIPS69000_DONE && (word & VIDEO_ENABLE) != 0;
+}
+
 /* ---- Video memory: the picture, then patterns and letters where nobody sees them. */
 
 /* The colours, as the script names them. */
 enum { BACKGROUND, TEXT, SPOKEN, COLOURS };
+
+/* A stored colour, by name: the palette's index and position are the guest's. */
+static uint32_t stored(uint8_t entry)
+{
+    uint32_t colour = chips69000_entry(state, sizeof state, entry);
+    unsigned number = colour >> 24;
+    if (number != CHIPS69000_DONE) fail("entry %u: %s (number %u)", (unsigned)entry, meaning(number), number);
+    return colour;
+}
+
+static void look_at_colours(void)
+{
+    if (stored(TEXT) == stored(BACKGROUND) || stored(SPOKEN) == stored(BACKGROUND))
+        fail("the script stores one colour for the text and the background");
+}
 
 /* Raster codes: bit 4P + 2S + D of the code is the result for a pattern bit P, a source bit S and a bit D already there. */
 enum {
@@ -229,17 +303,17 @@ static void draw_caption(void)
     draw_line(small, 404, TEXT, "THE LINE IN AMBER IS BEING SPOKEN.");
 }
 
-/* ---- The picture, through the palette. */
+/* ---- The picture, through the palette. A screen whose picture is off is black, whatever video memory has. */
 
 static void show(const char *path)
 {
-    static uint8_t colours[256][3], line[WIDTH][3];
+    static uint8_t colours[256][3], line[WIDTH][3]; /* static, so black */
     unsigned pixel, x, y;
     FILE *to;
     bool bad;
 
     /* A pixel has one of 256 values: each is asked for once. The number is above the three components. */
-    for (pixel = 0; pixel < 256; pixel++) {
+    for (pixel = 0; is_on() && pixel < 256; pixel++) {
         uint32_t colour = chips69000_pixel(state, sizeof state, (uint8_t)pixel);
         unsigned number = colour >> 24;
         if (number != CHIPS69000_DONE) fail("pixel %u: %s (number %u)", pixel, meaning(number), number);
@@ -280,11 +354,19 @@ int main(int argc, char **argv)
     /* A reset says nothing of video memory. It begins as anything, so that what the caption does not cover would be seen. */
     memset(memory, 0xA5, sizeof memory);
 
+    start_guest();
     play(argv[1], &steps, &commands);
+
+    /* The guest is about to read XR81 when the host looks at the picture: its index is still there afterwards. */
+    out(0x3D6, 0x81);
     look_at_picture();
+    look_at_colours();
+    if (in_word(0x3D6) != (ask(XR, 0x81) << 8 | 0x81)) fail("the guest's index moved");
+
     draw_caption();
+    switch_on();
     show(path);
-    fprintf(stderr, "%s: %zu steps, %zu commands carried out; a picture of %d by %d pixels to %s\n", argv[1], steps,
-            commands, WIDTH, HEIGHT, path ? path : "standard output");
+    fprintf(stderr, "%s: %zu steps, %zu commands carried out; %s of %d by %d pixels to %s\n", argv[1], steps, commands,
+            is_on() ? "a picture" : "no picture is on: a black one", WIDTH, HEIGHT, path ? path : "standard output");
     return 0;
 }

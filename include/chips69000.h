@@ -38,12 +38,13 @@ extern "C" {
 #define CHIPS69000_ROOM 9            /* lent output too small: 32 bytes a step (commands), 512 a block (files) */
 #define CHIPS69000_COMMAND 10        /* command bytes not a multiple of 4, or a command of no known form */
 #define CHIPS69000_IDLE 11           /* a step can do nothing: no bit of its register can be written; the value is its number */
+#define CHIPS69000_NO_GROUP 254      /* no group of registers has the number */
 #define CHIPS69000_NO_STATE 255      /* the state's length is not CHIPS69000_STATE_SIZE */
 
 /* ---- The state. */
 
 /* A reset, with the two bytes that the configuration pins show. It sets every byte, so a new state needs no clearing. */
-uint8_t chips69000_reset(uint8_t *state, size_t state_length, uint8_t pins_first, uint8_t pins_second);
+uint8_t chips69000_reset(uint8_t *state, size_t state_length, uint8_t first, uint8_t second);
 
 /* A port write. */
 uint8_t chips69000_port_write(uint8_t *state, size_t state_length, uint16_t port, uint8_t value);
@@ -51,7 +52,18 @@ uint8_t chips69000_port_write(uint8_t *state, size_t state_length, uint16_t port
 /* A port read: the byte, plus 256 times the number. The byte is FFh where the number is not 0. */
 uint16_t chips69000_port_read(uint8_t *state, size_t state_length, uint16_t port);
 
-/* The colour of a pixel: bits 16 to 23 are red, 8 to 15 green and 0 to 7 blue; bits 24 to 31 are the number. */
+/* ---- The state by name, for a host's own questions: no index, no turn and no half loaded colour moves under its guest, and
+ * closed ports make no difference. */
+
+/* A register: the byte, plus 256 times the number. The byte is FFh where the number is not 0. Groups are 0 CR, 1 SR, 2 GR, 3 XR,
+ * 4 FR, 5 MR, 6 MSR, 7 PALMASK and 8 AR. MSR and PALMASK are one register each, whatever the index; from a reset on an index
+ * that is not listed reads 00h. */
+uint16_t chips69000_register(const uint8_t *state, size_t state_length, uint8_t group, uint8_t index);
+
+/* The colour that an entry of the palette stores: bits 16 to 23 are red, 8 to 15 green and 0 to 7 blue, 24 to 31 the number. */
+uint32_t chips69000_entry(const uint8_t *state, size_t state_length, uint8_t entry);
+
+/* The colour that a pixel shows, packed in the same way. */
 uint32_t chips69000_pixel(const uint8_t *state, size_t state_length, uint8_t pixel);
 
 /* ---- Video memory: any multiple of 4 from 4,096 to CHIPS69000_MEMORY_SIZE bytes. */

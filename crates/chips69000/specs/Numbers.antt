@@ -1,14 +1,12 @@
 -- The numbers that cross the boundary: document 01's ("Numbers returned"), and `noState` for bytes that are no state. Those of a
--- port access are crate `state`'s. A colour comes as a word of four bytes, the number highest, then red, green and blue; what has
--- a longer value writes it to a place that the caller lends.
-use Prim.Native.Nat.{ℕ, _+_, _*_}
+-- port access are crate `state`'s, those of registers and colours by name crate `lent_names`'s. What has a longer value writes it to
+-- a place that the caller lends.
+use Prim.Native.Nat.{ℕ}
 use Rattle.run.specs.Run.{ofEnding}
 use Rattle.play.specs.Played.{ofOutcome}
 use Rattle.play.specs.declared.Outcome.{Outcome}
 use Rattle.play.specs.declared.Outcome.the-variants.{NotPlayed, Played}
 use Rattle.state.specs.Numbers.{noState}
-use Rattle.state.specs.declared.pixel.Colour.{Colour}
-use Rattle.state.specs.declared.pixel.Colour.the-variants.{Shown, Length as ColourLength}
 use Rattle.restart.specs.declared.Restarted.{Restarted}
 use Rattle.restart.specs.declared.Restarted.the-variants.{Done, Length as RestartLength}
 use Rattle.drive.specs.declared.Driven.{Driven}
@@ -19,10 +17,6 @@ use Rattle.perform.specs.declared.Performed.the-variants.{Met, Length as Perfor
 abbrev pub restartNumber : Restarted → ℕ
 restartNumber Done = 0
 restartNumber RestartLength = noState
-
-abbrev pub colourWord : Colour → ℕ
-colourWord (Shown c) = 65536 * c .red + 256 * c .green + c .blue
-colourWord ColourLength = 16777216 * noState
 
 abbrev pub driveNumber : Driven → ℕ
 driveNumber (Ran n e) = ofEnding e .number

@@ -1,40 +1,24 @@
 // The controller as a C program links it: include/chips69000.h declares these functions. The state is bytes
 // that the program lends (crate `state`), memory, files and command bytes likewise, and each function returns
 // document 01's number, or 255 for bytes that are no state (specs/Numbers). Nothing is worked out here: every
-// function calls a proved one and says its answer in numbers. Those on the state come first, then video
-// memory, then scripts and the run.
+// function calls a proved one and says its answer in numbers. Here are the reset and the port accesses; then
+// registers and colours by name, video memory, scripts and the run.
 ghost use mathlib.Core.Path.{_≡_};
-ghost use Prim.Native.Nat.{_+_, _*_};
 ghost use Rattle.chip.specs.Access.{portWritten, portRead};
 ghost use Rattle.chip.specs.Reset.{reset as resetOf};
 ghost use Rattle.state.specs.Layout.{view, spare};
-ghost use Rattle.state.specs.Accesses.{Left, writeAnswer, readAnswer, pixelAnswer};
+ghost use Rattle.state.specs.Accesses.{Left, writeAnswer, readAnswer};
 ghost use Rattle.state.specs.Numbers.{writeNumber, readWord};
 ghost use Rattle.restart.specs.Fresh.{restartAnswer};
-ghost use Rattle.chips69000.specs.Numbers.{restartNumber, colourWord};
+ghost use Rattle.chips69000.specs.Numbers.{restartNumber};
 use restart::Restarted;
 use restart::restart;
 use state::access::read_word;
 use state::access::write_number;
-use state::pixel::Colour;
-use state::pixel::colour_of;
 
+pub mod names;
 pub mod scripts;
 pub mod video;
-
-// A byte as a longer number.
-fn wide(x: u8) -> u32
-    ensures { λ r. ⌜ r ≡ x ⌝ }
-{
-    x as u32
-}
-
-// A colour as one number.
-fn packed(red: u8, green: u8, blue: u8) -> u32
-    ensures { λ r. ⌜ r ≡ 65536 * red + 256 * green + blue ⌝ }
-{
-    65536 * wide(red) + 256 * wide(green) + wide(blue)
-}
 
 // A reset that lends two pin bytes.
 #[no_mangle]
@@ -64,15 +48,4 @@ pub extern "C" fn chips69000_port_read(state: &mut [u8], port: u16) -> u16
     ensures { λ _. ⌜ Left (now (state .entry)) (portRead (view (now (state .entry))) port .chip) (spare (now (state .entry))) (now (state .exit)) ⌝ }
 {
     read_word(state, port)
-}
-
-// The colour of a pixel: red, green and blue below the number.
-#[no_mangle]
-pub extern "C" fn chips69000_pixel(state: &[u8], pixel: u8) -> u32
-    ensures { λ r. ⌜ r ≡ colourWord (pixelAnswer (now (state .entry)) pixel) ⌝ }
-{
-    match colour_of(state, pixel) {
-        Colour::Shown(c) => packed(c.red, c.green, c.blue),
-        Colour::Length => 4278190080,
-    }
 }

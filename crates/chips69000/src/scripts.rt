@@ -133,24 +133,28 @@ pub extern "C" fn chips69000_check_script(file: &[u8], value: &mut usize) -> u8
 
 // A list of steps written as a script file; the value is the number of blocks, or the offending step's number.
 #[no_mangle]
-pub extern "C" fn chips69000_write_script(list: &[u8], out: &mut [u8], value: &mut usize) -> u8
-    ensures { λ r. ⌜ r ≡ ofWritten (written (now (list .entry)) (length (now (out .entry)))) .number ⌝ }
-    ensures { λ _. ⌜ now (value .exit) ≡ ofWritten (written (now (list .entry)) (length (now (out .entry)))) .value ⌝ }
-    ensures { λ _. ⌜ now (out .exit) ≡ listLeftBy (written (now (list .entry)) (length (now (out .entry)))) (now (list .entry)) (now (out .entry)) ⌝ }
+pub extern "C" fn chips69000_write_script(steps: &[u8], file: &mut [u8], value: &mut usize) -> u8
+    ensures { λ r. ⌜ r ≡ ofWritten (written (now (steps .entry)) (length (now (file .entry)))) .number ⌝ }
+    ensures { λ _. ⌜ now (value .exit) ≡ ofWritten (written (now (steps .entry)) (length (now (file .entry)))) .value ⌝ }
+    ensures { λ _. ⌜ now (file .exit) ≡ listLeftBy (written (now (steps .entry)) (length (now (file .entry)))) (now (steps .entry)) (now (file .entry)) ⌝ }
 {
-    let t = of_written(writer::write(list, out));
+    let t = of_written(writer::write(steps, file));
     *value = t.value;
     t.number
 }
 
 // A script file translated into commands; the value is their number, or as for a check.
 #[no_mangle]
-pub extern "C" fn chips69000_translate_script(file: &[u8], out: &mut [u8], value: &mut usize) -> u8
-    ensures { λ r. ⌜ r ≡ numbersOf (translated (now (file .entry)) (length (now (out .entry)))) .number ⌝ }
-    ensures { λ _. ⌜ now (value .exit) ≡ numbersOf (translated (now (file .entry)) (length (now (out .entry)))) .value ⌝ }
-    ensures { λ _. ⌜ now (out .exit) ≡ leftBy (translated (now (file .entry)) (length (now (out .entry)))) (now (file .entry)) (now (out .entry)) ⌝ }
+pub extern "C" fn chips69000_translate_script(
+    file: &[u8],
+    commands: &mut [u8],
+    value: &mut usize,
+) -> u8
+    ensures { λ r. ⌜ r ≡ numbersOf (translated (now (file .entry)) (length (now (commands .entry)))) .number ⌝ }
+    ensures { λ _. ⌜ now (value .exit) ≡ numbersOf (translated (now (file .entry)) (length (now (commands .entry)))) .value ⌝ }
+    ensures { λ _. ⌜ now (commands .exit) ≡ leftBy (translated (now (file .entry)) (length (now (commands .entry)))) (now (file .entry)) (now (commands .entry)) ⌝ }
 {
-    let t = of_translated(translate(file, out));
+    let t = of_translated(translate(file, commands));
     *value = t.value;
     t.number
 }
@@ -184,24 +188,24 @@ pub extern "C" fn chips69000_run(
     }
 }
 
-// A script file played on the state: the entry of demand 3. The buffer is lent for the commands, 32 bytes a
+// A script file played on the state: the entry of demand 3. The commands go to lent bytes, 32 a
 // step; the count is of the commands carried out, the value as for a translation or a run.
 #[no_mangle]
 pub extern "C" fn chips69000_play(
     state: &mut [u8],
     file: &[u8],
-    buffer: &mut [u8],
+    commands: &mut [u8],
     count: &mut usize,
     value: &mut usize,
 ) -> u8
-    ensures { λ r. ⌜ r ≡ playNumber (performAnswer (now (state .entry)) (now (file .entry)) (length (now (buffer .entry)))) ⌝ }
-    ensures { λ _. ⌜ now (count .exit) ≡ playCount (performAnswer (now (state .entry)) (now (file .entry)) (length (now (buffer .entry)))) ⌝ }
-    ensures { λ _. ⌜ now (value .exit) ≡ playValue (performAnswer (now (state .entry)) (now (file .entry)) (length (now (buffer .entry)))) ⌝ }
-    ensures { λ _. ⌜ Left (now (state .entry)) (played (view (now (state .entry))) (now (file .entry)) (length (now (buffer .entry))) .chip) (spare (now (state .entry))) (now (state .exit)) ⌝ }
-    ensures { λ _. ⌜ ByNameIn (now (state .entry)) (now (file .entry)) (length (now (buffer .entry))) (now (state .exit)) (performAnswer (now (state .entry)) (now (file .entry)) (length (now (buffer .entry)))) ⌝ }
-    ensures { λ _. ⌜ now (buffer .exit) ≡ bufferLeft (now (state .entry)) (now (file .entry)) (now (buffer .entry)) ⌝ }
+    ensures { λ r. ⌜ r ≡ playNumber (performAnswer (now (state .entry)) (now (file .entry)) (length (now (commands .entry)))) ⌝ }
+    ensures { λ _. ⌜ now (count .exit) ≡ playCount (performAnswer (now (state .entry)) (now (file .entry)) (length (now (commands .entry)))) ⌝ }
+    ensures { λ _. ⌜ now (value .exit) ≡ playValue (performAnswer (now (state .entry)) (now (file .entry)) (length (now (commands .entry)))) ⌝ }
+    ensures { λ _. ⌜ Left (now (state .entry)) (played (view (now (state .entry))) (now (file .entry)) (length (now (commands .entry))) .chip) (spare (now (state .entry))) (now (state .exit)) ⌝ }
+    ensures { λ _. ⌜ ByNameIn (now (state .entry)) (now (file .entry)) (length (now (commands .entry))) (now (state .exit)) (performAnswer (now (state .entry)) (now (file .entry)) (length (now (commands .entry)))) ⌝ }
+    ensures { λ _. ⌜ now (commands .exit) ≡ bufferLeft (now (state .entry)) (now (file .entry)) (now (commands .entry)) ⌝ }
 {
-    match perform(state, file, buffer) {
+    match perform(state, file, commands) {
         Performed::Met(o) => {
             let t = of_outcome(o);
             *count = count_of(o);

@@ -148,13 +148,6 @@ component-at l e k h = rw (get-colour l e h) (go (eqb k 2) (eqb k 1))
     go false true = let x : 1792 + 3 * e + 1 ≡ 1792 + (3 * e + 1) = omega arith in rw x
     go false false = let x : 1792 + 3 * e + 0 ≡ 1792 + 3 * e = omega arith in rw x
 
-pub entry-at : (l : List ℕ) (e : ℕ) → e < 256
-    → entry (named (view l)) e ≡ rgb (getD l (1792 + 3 * e) 0) (getD l (1792 + 3 * e + 1) 0) (getD l (1792 + 3 * e + 2) 0)
-entry-at l e h =
-    let x : 1792 + 3 * e + 1 ≡ 1792 + (3 * e + 1) = omega arith in
-    let y : 1792 + 3 * e + 2 ≡ 1792 + (3 * e + 2) = omega arith in
-    rw (x, y) (get-colour l e h)
-
 pub shown-at : (l : List ℕ) → getD l 2569 0 < 256
     → component (entry (named (view l)) (view l .loading .index)) (view l .loading .position) ≡ getD l (1792 + 3 * getD l 2569 0 + thirdOf (getD l 2570 0)) 0
 unfolding view cell

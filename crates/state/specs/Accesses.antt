@@ -6,8 +6,6 @@ use mathlib.Core.Bool.{Bool, cond}
 use mathlib.Core.List.{List}
 use lib.Dec.{eqb}
 use lib.ListN.{length}
-use Rattle.chip.specs.State.{named}
-use Rattle.chip.specs.Palette.{shown}
 use Rattle.chip.specs.Access.{numberOf, portWritten, portRead}
 use Rattle.chip.specs.declared.Chip.{Chip}
 use Rattle.state.specs.Layout.{whole, view, spare, Holds}
@@ -15,8 +13,6 @@ use Rattle.state.specs.declared.access.Written.{Written}
 use Rattle.state.specs.declared.access.Written.the-variants.{Answered as WriteAnswered, Length as WriteLength}
 use Rattle.state.specs.declared.access.Seen.{Seen}
 use Rattle.state.specs.declared.access.Seen.the-variants.{Answered as ReadAnswered, Length as ReadLength}
-use Rattle.state.specs.declared.pixel.Colour.{Colour}
-use Rattle.state.specs.declared.pixel.Colour.the-variants.{Shown, Length as ColourLength}
 
 -- whether bytes are a state
 abbrev pub isState : List ℕ → Bool
@@ -33,9 +29,6 @@ writeAnswer l p v = cond (isState l) (WriteAnswered (portWritten (view l) p v .a
 
 abbrev pub readAnswer : List ℕ → ℕ → Seen
 readAnswer l p = cond (isState l) (ReadAnswered (portRead (view l) p .answer) (portRead (view l) p .value)) ReadLength
-
-abbrev pub pixelAnswer : List ℕ → ℕ → Colour
-pixelAnswer l p = cond (isState l) (Shown (shown (named (view l)) p)) ColourLength
 
 -- an access on a state, which answers by its number, a read with the byte
 pub record WroteIn (l : List ℕ) (p v : ℕ) (m : List ℕ) (r : ℕ) : Type 0 where

@@ -4,7 +4,7 @@
 // bytes from 1792 on, 2569 is the palette's index, 2570 the position, 2571 and 2572 are the bytes held at red and at
 // green; then port 3C0h: 2568 is the attribute index. The flags are bits of 2573: bit 0 says that the read index
 // was written last, bit 1 that data comes next at 3C0h, bit 2 that there is a picture. The other indexes and the
-// port accesses are in access.rt, a pixel's colour in pixel.rt.
+// port accesses are in access.rt; registers and colours as a host asks for them are crate `lent_names`'s.
 // What is public takes bytes of any length, and refuses all but a state's.
 ghost use mathlib.Core.Path.{_≡_};
 ghost use Prim.Native.Nat.{_+_, _*_, _/_, _%_, _<_};
@@ -23,7 +23,6 @@ use registers::under_lock;
 use registers::write;
 
 pub mod access;
-pub mod pixel;
 
 // Where the bytes of a group's registers start.
 fn base(g: Group) -> usize
@@ -61,7 +60,7 @@ fn offset(g: Group, i: u8) -> usize
 }
 
 // Where a register's byte is.
-fn place(g: Group, i: u8) -> usize
+pub fn place(g: Group, i: u8) -> usize
     ensures { λ r. ⌜ r ≡ placeOf g i ⌝ }
     ensures { λ r. ⌜ r < whole ⌝ }
 {

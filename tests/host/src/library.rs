@@ -1,27 +1,37 @@
 //! The library's functions, as include/chips69000.h declares them, over slices.
 
+// tests/boundary compares these with the header and with the Rattle source: functions, types, order and names of parameters.
 mod raw {
     extern "C" {
-        pub fn chips69000_reset(s: *mut u8, n: usize, first: u8, second: u8) -> u8;
-        pub fn chips69000_port_write(s: *mut u8, n: usize, port: u16, v: u8) -> u8;
-        pub fn chips69000_port_read(s: *mut u8, n: usize, port: u16) -> u16;
-        pub fn chips69000_pixel(s: *const u8, n: usize, pixel: u8) -> u32;
-        pub fn chips69000_memory_read(m: *const u8, n: usize, at: usize) -> u16;
-        pub fn chips69000_memory_write(m: *mut u8, n: usize, at: usize, v: u8) -> u8;
+        pub fn chips69000_reset(state: *mut u8, state_length: usize, first: u8, second: u8) -> u8;
+        pub fn chips69000_port_write(state: *mut u8, state_length: usize, port: u16, value: u8) -> u8;
+        pub fn chips69000_port_read(state: *mut u8, state_length: usize, port: u16) -> u16;
+        pub fn chips69000_register(state: *const u8, state_length: usize, group: u8, index: u8) -> u16;
+        pub fn chips69000_entry(state: *const u8, state_length: usize, entry: u8) -> u32;
+        pub fn chips69000_pixel(state: *const u8, state_length: usize, pixel: u8) -> u32;
+        pub fn chips69000_memory_read(memory: *const u8, memory_length: usize, at: usize) -> u16;
+        pub fn chips69000_memory_write(memory: *mut u8, memory_length: usize, at: usize, value: u8) -> u8;
         #[allow(clippy::too_many_arguments)]
         pub fn chips69000_transfer(
-            m: *mut u8, n: usize, dst: u32, dstspan: u32, src: u32, srcspan: u32, width: u32, height: u32, code: u8,
-            leftward: bool, upward: bool, pattern: u32, row: u32,
+            memory: *mut u8, memory_length: usize, destination: usize, destination_span: usize, source: usize,
+            source_span: usize, width: usize, height: usize, code: u8, leftward: bool, upward: bool, pattern: usize,
+            pattern_row: usize,
         ) -> u8;
-        pub fn chips69000_check_script(f: *const u8, n: usize, value: *mut usize) -> u8;
-        pub fn chips69000_write_script(l: *const u8, n: usize, f: *mut u8, room: usize, value: *mut usize) -> u8;
-        pub fn chips69000_translate_script(f: *const u8, n: usize, c: *mut u8, cn: usize, value: *mut usize) -> u8;
+        pub fn chips69000_check_script(file: *const u8, file_length: usize, value: *mut usize) -> u8;
+        pub fn chips69000_write_script(
+            steps: *const u8, steps_length: usize, file: *mut u8, file_length: usize, value: *mut usize,
+        ) -> u8;
+        pub fn chips69000_translate_script(
+            file: *const u8, file_length: usize, commands: *mut u8, commands_length: usize, value: *mut usize,
+        ) -> u8;
         pub fn chips69000_run(
-            s: *mut u8, n: usize, c: *const u8, cn: usize, limit: usize, count: *mut usize, place: *mut usize,
+            state: *mut u8, state_length: usize, commands: *const u8, commands_length: usize, limit: usize, count: *mut usize,
+            place: *mut usize,
         ) -> u8;
         #[allow(clippy::too_many_arguments)]
         pub fn chips69000_play(
-            s: *mut u8, n: usize, f: *const u8, fl: usize, c: *mut u8, cn: usize, count: *mut usize, value: *mut usize,
+            state: *mut u8, state_length: usize, file: *const u8, file_length: usize, commands: *mut u8,
+            commands_length: usize, count: *mut usize, value: *mut usize,
         ) -> u8;
     }
 }
@@ -43,6 +53,17 @@ pub fn port_read(s: &mut [u8], port: u16) -> (u8, u8) {
     ((r >> 8) as u8, r as u8)
 }
 
+/// The number and the byte.
+pub fn register(s: &[u8], group: u8, index: u8) -> (u8, u8) {
+    let r = unsafe { raw::chips69000_register(s.as_ptr(), s.len(), group, index) };
+    ((r >> 8) as u8, r as u8)
+}
+
+/// The number, red, green and blue.
+pub fn entry(s: &[u8], entry: u8) -> [u8; 4] {
+    unsafe { raw::chips69000_entry(s.as_ptr(), s.len(), entry) }.to_be_bytes()
+}
+
 /// The number, red, green and blue.
 pub fn pixel(s: &[u8], pixel: u8) -> [u8; 4] {
     unsafe { raw::chips69000_pixel(s.as_ptr(), s.len(), pixel) }.to_be_bytes()
@@ -59,17 +80,17 @@ pub fn memory_write(m: &mut [u8], at: usize, v: u8) -> u8 {
 
 #[derive(Clone, Copy, Debug)]
 pub struct Transfer {
-    pub dst: u32,
-    pub dstspan: u32,
-    pub src: u32,
-    pub srcspan: u32,
-    pub width: u32,
-    pub height: u32,
+    pub dst: usize,
+    pub dstspan: usize,
+    pub src: usize,
+    pub srcspan: usize,
+    pub width: usize,
+    pub height: usize,
     pub code: u8,
     pub leftward: bool,
     pub upward: bool,
-    pub pattern: u32,
-    pub row: u32,
+    pub pattern: usize,
+    pub row: usize,
 }
 
 pub fn transfer(m: &mut [u8], t: Transfer) -> u8 {

@@ -1,6 +1,6 @@
-//! The library compared with an independent model, from fixed seeds: resets, port accesses, colours, runs of commands, bytes of video
-//! memory and transfers, steps that are refused, scripts whole and damaged, scripts played, and bytes that are no state. A failure
-//! prints the input that differs, and the status is not 0.
+//! The library compared with an independent model, from fixed seeds: resets, port accesses, colours, registers by name, runs of
+//! commands, bytes of video memory and transfers, steps that are refused, scripts whole and damaged, scripts played, and bytes that
+//! are no state. A failure prints the input that differs, and the status is not 0.
 
 mod library;
 mod model;
@@ -134,6 +134,55 @@ fn accesses(rows: &Rows, r: &mut Random, rounds: usize, each: usize) -> usize {
     rounds * each
 }
 
+/// Registers and colours by name, of states that accesses leave: every number of a group, every index, every entry. Asking moves
+/// nothing, and the ports then read the same bytes.
+fn names(rows: &Rows, r: &mut Random, rounds: usize) -> usize {
+    for round in 0..rounds {
+        let mut s = start(r, rows);
+        let mut c = Chip::from_bytes(&s);
+        for _ in 0..r.below(200) {
+            let (p, v) = (port(r), r.byte());
+            if r.one_in(3) {
+                library::port_read(&mut s, p);
+                c.read(p);
+            } else {
+                library::port_write(&mut s, p, v);
+                c.write(rows, p, v);
+            }
+        }
+        let kept = s.clone();
+        for (group, index) in (0..=65535u16).map(|k| ((k >> 8) as u8, k as u8)) {
+            let (got, want) = (library::register(&s, group, index), c.register(group, index));
+            if got != want {
+                expect(&format!("round {round}: register {group} {index:02X}"), got, want);
+            }
+        }
+        for e in 0..=255 {
+            let [x, y, z] = c.entry(e);
+            expect(&format!("round {round}: entry {e:02X}"), library::entry(&s, e), [0, x, y, z]);
+        }
+        expect_bytes(&format!("round {round}: after all names"), &s, &kept);
+
+        s[768 + 0x70] |= 2;
+        let (colour, eight) = (c.register(6, 0).1 & 1, c.register(3, 0x80).1 & 0x80 != 0);
+        let pairs = [[0x3B4, 0x3D4][colour as usize], 0x3C4, 0x3CE, 0x3D6, 0x3D0, 0x3D2];
+        for (group, pair) in (0..).zip(pairs) {
+            let index = r.byte() & [0xFF, 0x07, 0x0F, 0xFF, 0xFF, 0xFF][group as usize];
+            let named = library::register(&s, group, index);
+            library::port_write(&mut s, pair, index);
+            expect(&format!("round {round}: port {:03X} at {index:02X}", pair + 1), library::port_read(&mut s, pair + 1), named);
+        }
+        expect(&format!("round {round}: port 3CC"), library::port_read(&mut s, 0x3CC), library::register(&s, 6, r.byte()));
+        expect(&format!("round {round}: port 3C6"), library::port_read(&mut s, 0x3C6), library::register(&s, 7, r.byte()));
+        let e = r.byte();
+        let stored = library::entry(&s, e).map(|x| if eight { x } else { x % 64 });
+        library::port_write(&mut s, 0x3C7, e);
+        let read = [0; 3].map(|_| library::port_read(&mut s, 0x3C9).1);
+        expect(&format!("round {round}: port 3C9 at {e:02X}"), read, [stored[1], stored[2], stored[3]]);
+    }
+    rounds * (65536 + 256)
+}
+
 fn command(r: &mut Random) -> [u8; 4] {
     let kind = r.below(100);
     let p = if r.one_in(100) { r.next() as u16 } else { directed(r, kind >= 40) };
@@ -180,6 +229,8 @@ fn lengths(r: &mut Random) -> usize {
         expect(&input, library::port_write(&mut s, 0x3C8, 1), NO_STATE);
         expect(&input, library::port_read(&mut s, 0x3C8), (NO_STATE, 0xFF));
         expect(&input, library::pixel(&s, 1), [NO_STATE, 0, 0, 0]);
+        expect(&input, library::entry(&s, 1), [NO_STATE, 0, 0, 0]);
+        expect(&input, [0, 8, 9, 255].map(|group| library::register(&s, group, 1)), [(NO_STATE, 0xFF); 4]);
         expect(&input, library::run(&mut s, &[1, 0xC8, 3, 1], 1), (NO_STATE, 0, 0));
         let mut commands = [0x5A; 64];
         expect(&input, library::play(&mut s, &script, &mut commands), (NO_STATE, 0, 0));
@@ -210,20 +261,25 @@ fn transfers(r: &mut Random, rounds: usize) -> usize {
     let mut done = 0;
     for round in 0..rounds {
         let n = if r.one_in(50) { 4000 + r.below(200) as usize } else { r.of(&[4096, 8192, 5000]) };
-        let address = |r: &mut Random| if r.one_in(30) { r.next() } else { r.below(n as u32 + 20) };
-        let span = |r: &mut Random| if r.one_in(30) { r.next() } else { r.below(80) };
+        // Seldom any 32-bit number, a small one plus a multiple of 2^32, or one near the largest.
+        let odd = |r: &mut Random, n: u32| match r.below(120) {
+            0 => r.next() as usize,
+            1 | 2 => (1 + r.below(9) as usize) << 32 | r.below(n) as usize,
+            3 => usize::MAX - r.below(9000) as usize,
+            _ => r.below(n) as usize,
+        };
         let t = Transfer {
-            dst: address(r),
-            src: address(r),
-            dstspan: span(r),
-            srcspan: span(r),
-            width: if r.one_in(40) { r.below(9000) } else { r.below(40) },
-            height: if r.one_in(40) { r.below(9000) } else { r.below(12) },
+            dst: odd(r, n as u32 + 20),
+            src: odd(r, n as u32 + 20),
+            dstspan: odd(r, 80),
+            srcspan: odd(r, 80),
+            width: if r.one_in(40) { r.below(9000) as usize } else { odd(r, 40) },
+            height: if r.one_in(40) { r.below(9000) as usize } else { odd(r, 12) },
             code: if r.one_in(2) { r.of(&[0xCC, 0xF0, 0x5A, 0x66, 0xB8, 0x00, 0xFF, 0xAA, 0xEE]) } else { r.byte() },
             leftward: r.one_in(2),
             upward: r.one_in(2),
-            pattern: if r.one_in(30) { r.next() } else { 64 * r.below(70) },
-            row: r.below(9),
+            pattern: if r.one_in(30) { odd(r, 4480) } else { odd(r, 70).wrapping_mul(64) },
+            row: odd(r, 9),
         };
         let input = format!("transfer {round}, {n} bytes: {t:?}");
         let got = library::transfer(&mut m[..n], t);
@@ -521,6 +577,7 @@ fn main() {
     let r = &mut Random(69000);
     println!("{} resets agree", resets(&rows, r));
     println!("{} port accesses agree", accesses(&rows, r, 4000, 1000));
+    println!("{} registers and colours by name agree", names(&rows, r, 200));
     println!("{} commands of 100000 runs agree", runs(&rows, r, 100_000));
     println!("{} lengths that are no state's are refused", lengths(r));
     println!("{} bytes of memory agree", memory(r, 10_000));

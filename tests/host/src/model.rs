@@ -241,6 +241,16 @@ impl Chip {
         }
     }
 
+    /// A register as a host asks for it: the number and the byte. Groups are 0 to 8; MSR and PALMASK have no index.
+    pub fn register(&self, group: u8, index: u8) -> (u8, u8) {
+        if group > 8 { (254, 0xFF) } else { (0, self.get(group as usize, index)) }
+    }
+
+    /// The colour that an entry stores.
+    pub fn entry(&self, entry: u8) -> [u8; 3] {
+        self.palette[entry as usize]
+    }
+
     /// A register receives a byte, by name.
     fn put(&mut self, rows: &Rows, g: usize, i: u8, v: u8) {
         let mut mask = rows.writable(g, i);

@@ -46,10 +46,10 @@ pub fn transfer(m: &mut [u8], t: Transfer) -> u8 {
     if !good {
         return 5;
     }
-    let sign = |back: bool, n: u32| if back { -i64::from(n) } else { i64::from(n) };
-    let place = |first: u32, span: u32, r: u32, c: u32| i64::from(first) + sign(t.leftward, c) + sign(t.upward, r) * i64::from(span);
-    let tile = |r: u32, d: i64| i64::from(t.pattern) + 8 * (i64::from(t.row) + sign(t.upward, r)).rem_euclid(8) + d.rem_euclid(8);
-    let inside = |a: i64| (0..m.len() as i64).contains(&a);
+    let sign = |back: bool, n: usize| if back { -(n as i128) } else { n as i128 };
+    let place = |first: usize, span: usize, r: usize, c: usize| first as i128 + sign(t.leftward, c) + sign(t.upward, r) * span as i128;
+    let tile = |r: usize, d: i128| t.pattern as i128 + 8 * (t.row as i128 + sign(t.upward, r)).rem_euclid(8) + d.rem_euclid(8);
+    let inside = |a: i128| (0..m.len() as i128).contains(&a);
     for r in 0..t.height {
         for c in 0..t.width {
             let d = place(t.dst, t.dstspan, r, c);

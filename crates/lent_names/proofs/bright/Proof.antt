@@ -1,7 +1,7 @@
 -- By the mode.
 use borrow.Author.Needs.{needs}
-use Rattle.state.proofs.pixel.bright.Statement.{statement}
-use Rattle.state.proofs.pixel.bright.Tie as tie
+use Rattle.lent_names.proofs.bright.Statement.{statement}
+use Rattle.lent_names.proofs.bright.Tie as tie
 
 pub bright-spec : {M : Type 1} → statement M
 bright-spec =

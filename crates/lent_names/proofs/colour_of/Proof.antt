@@ -1,8 +1,8 @@
 -- Another length is refused.
 use borrow.Author.Tests.{eq-eqb, ne-eqb}
 use borrow.Author.Needs.{needs}
-use Rattle.state.proofs.pixel.colour_of.Statement.{statement}
-use Rattle.state.proofs.pixel.colour_of.Tie as tie
+use Rattle.lent_names.proofs.colour_of.Statement.{statement}
+use Rattle.lent_names.proofs.colour_of.Tie as tie
 
 pub colour-of-spec : {M : Type 1} → statement M
 colour-of-spec =

@@ -1,8 +1,8 @@
 -- Each component by the mode.
 use Rattle.chip.specs.Palette.{shown}
 use borrow.Author.Needs.{needs}
-use Rattle.state.proofs.pixel.shown.Statement.{statement}
-use Rattle.state.proofs.pixel.shown.Tie as tie
+use Rattle.lent_names.proofs.shown.Statement.{statement}
+use Rattle.lent_names.proofs.shown.Tie as tie
 
 pub shown-spec : {M : Type 1} → statement M
 unfolding shown
