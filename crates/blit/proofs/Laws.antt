@@ -34,6 +34,11 @@ transferred-sees A look m t e = by (accepted (length m) t)
     by true = e
     by false = refl
 
+-- a transfer that is not accepted leaves the memory as it was
+pub refused-keeps-memory : (m : List ℕ) (t : Transfer) → accepted (length m) t ≡ false → transferred m t ≡ m
+unfolding transferred
+refused-keeps-memory m t e = rw e
+
 lines-keep : (A : Type 0) (look : List ℕ → A) (t : Transfer) → ((r c : ℕ) → r < t .height → c < t .width → (m : List ℕ) → look (byteDone t r c m) ≡ look m)
     → (m : List ℕ) → look (linesDone t m) ≡ look m
 unfolding linesDone lineDone
