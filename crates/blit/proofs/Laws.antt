@@ -18,9 +18,9 @@ use Rattle.raster.specs.Laws.{AAh-destination, CCh-source}
 use Rattle.blit_frame.specs.declared.Area.{Area}
 use Rattle.blit_frame.specs.declared.Transfer.{Transfer}
 use Rattle.memory.specs.Memory.{lengthAllowed}
-use Rattle.blit_frame.specs.Frame.{ahead, behind, place, patternPlace, inRange, everyByte, within, inMemory, accepted, judged}
+use Rattle.blit_frame.specs.Frame.{ahead, behind, place, patternPlace, inRange, everyByte, within, inMemory, accepted, judged, judgedNumber}
 use Rattle.blit.specs.Transfer.{patternByte, sourceByte, destinationByte, byteDone, inTurn, lineDone, linesDone, transferred}
-use Rattle.blit_frame.proofs.Numbers.{bytes-at}
+use Rattle.blit_frame.proofs.Numbers.{bytes-at, number-0-exactly}
 use Rattle.blit.proofs.Turns.{in-turn-keeps, in-turn-still, in-turn-same, in-turn-at}
 
 -- ---- what a transfer leaves alone
@@ -38,6 +38,14 @@ transferred-sees A look m t e = by (accepted (length m) t)
 pub refused-keeps-memory : (m : List ℕ) (t : Transfer) → accepted (length m) t ≡ false → transferred m t ≡ m
 unfolding transferred
 refused-keeps-memory m t e = rw e
+
+-- nor does one with another number than 0
+pub refused-numbered : (m : List ℕ) (t : Transfer) → (judgedNumber (length m) t ≡ 0 → ⊥) → transferred m t ≡ m
+refused-numbered m t other = refused-keeps-memory m t (not-accepted (accepted (length m) t) refl)
+  where
+    not-accepted : (b : Bool) → accepted (length m) t ≡ b → accepted (length m) t ≡ false
+    not-accepted true e = absurd (other (number-0-exactly (length m) t .1 e))
+    not-accepted false e = e
 
 lines-keep : (A : Type 0) (look : List ℕ → A) (t : Transfer) → ((r c : ℕ) → r < t .height → c < t .width → (m : List ℕ) → look (byteDone t r c m) ≡ look m)
     → (m : List ℕ) → look (linesDone t m) ≡ look m

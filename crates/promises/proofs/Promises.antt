@@ -1,0 +1,236 @@
+-- Every promise of the project, each with its statement as its type, proved by the theorem that it cites. In the order of document 01's
+-- demands: numbers and refusals (1), the chip, memory and the round trips (2), scripts (3); then what each request of document 02 adds.
+-- A statement is written out over the definitions of the crates' specs/, which is what has to be believed. The contracts of the functions
+-- are equations with the same definitions; they are checked where the functions are. Assumes nothing.
+use mathlib.Core.Path.{_≡_, sym, ap, _∙_}
+use mathlib.Core.Bool.{Bool, true, false, cond}
+use mathlib.Core.List.{List}
+use mathlib.Core.Logic.{_↔_}
+use Prim.Native.Nat.{ℕ, _+_, _*_, _/_, _%_, _≤_, _<_}
+use lib.ListN.{length, take, drop, getD}
+use Rattle.lists.specs.Bits.{bit, isSet}
+use Rattle.lists.specs.Numbers.{returned}
+use Rattle.lists.specs.Put.{put}
+use Rattle.lists.specs.Tab.{Bytes}
+use Rattle.registers.specs.Groups.{groupAt, rowOf, writableOf}
+use Rattle.registers.specs.Indexes.{indexKept, fits}
+use Rattle.registers.specs.WriteRule.{written}
+use Rattle.registers.specs.declared.Group.{Group}
+use Rattle.registers.specs.declared.Group.the-variants.{Ar, Palmask}
+use Rattle.registers.specs.declared.Row.the-variants.{Unlisted}
+use Rattle.registers.proofs.PrintedRows as printed-rows
+use Rattle.registers.proofs.PrintedRows.{asPrinted, printed}
+use Rattle.registers.proofs.Stretches.{has}
+use Rattle.registers.proofs.WriteLaws as write-laws
+use Rattle.ports.specs.Ports.{target}
+use Rattle.ports.specs.declared.Target.the-variants.{Index, Data}
+use Rattle.ports.proofs.PortLaws as port-laws
+use Rattle.ports.proofs.PortLaws.{listedPorts, linesFrom, documented}
+use Rattle.chip.specs.State.{Named, named, join, withIndex, withPicture, withTurn}
+use Rattle.chip.specs.Names.{register, received, writableAt, portsOpen, colour, eightBit}
+use Rattle.chip.specs.Palette.{entry, rgb, shown}
+use Rattle.chip.specs.Access.{numberOf, portWritten, portRead, wrote}
+use Rattle.chip.specs.Reset.{reset, resetByte}
+use Rattle.chip.specs.Reach.{Reach}
+use Rattle.chip.specs.declared.Chip.{Chip}
+use Rattle.chip.specs.declared.access.Answer.the-variants.{Done}
+use Rattle.chip.proofs.NumberLaws as number-laws
+use Rattle.chip.proofs.NameLaws as name-laws
+use Rattle.chip.proofs.NameLaws.{Has, Different}
+use Rattle.chip.proofs.ReachLaws as reach-laws
+use Rattle.chip.proofs.ResetLaws as reset-laws
+use Rattle.chip.proofs.ShownLaws as shown-laws
+use Rattle.chip.proofs.IndexLaws as index-laws
+use Rattle.chip.proofs.AttributeLaws as attribute-laws
+use Rattle.memory.specs.Memory.{lengthAllowed, byteNumber}
+use Rattle.memory.proofs.Laws as memory-laws
+use Rattle.raster.specs.Raster.{raster}
+use Rattle.raster.specs.AppendixE.{printed as printedCodes, value, inputs, zeros}
+use Rattle.raster.specs.AppendixELaws as appendix-laws
+use Rattle.blit_frame.specs.Frame.{inRange, inMemory, judgedNumber}
+use Rattle.blit_frame.specs.declared.Transfer.{Transfer}
+use Rattle.blit_frame.proofs.Numbers as frame-laws
+use Rattle.blit_frame.proofs.Numbers.{UsedOutside}
+use Rattle.blit.specs.Transfer.{transferred}
+use Rattle.blit.proofs.Laws as blit-laws
+use Rattle.steps.specs.Step.{legal, idle, judged}
+use Rattle.steps.specs.declared.Step.{Step}
+use Rattle.steps.specs.declared.Step.the-variants.{Set, Field}
+use Rattle.steps.specs.declared.StepRead.the-variants.{Good, Refused}
+use Rattle.steps.specs.declared.Fault.the-variants.{Unallowed, Idle}
+use Rattle.steps.proofs.Lawful as lawful
+use Rattle.script.specs.File.{blocks, checked}
+use Rattle.script.specs.Numbers.{ofChecked, fileTable}
+use Rattle.script.specs.Reader.{nextOf}
+use Rattle.script.specs.declared.Checked.the-variants.{Accepted}
+use Rattle.script.specs.declared.Next.the-variants.{End}
+use Rattle.script.proofs.Checking as checking
+use Rattle.writer.specs.Write.{fileOf, written as listWritten, leftBy as listLeftBy, stepsOf}
+use Rattle.writer.specs.declared.Written.the-variants.{Blocks}
+use Rattle.writer.proofs.RoundTrip as round-trip
+use Rattle.commands.specs.Command.{bytesOfAll}
+use Rattle.commands.specs.Translation.{stepsTo, commandsTo, begins}
+use Rattle.run.specs.Run.{ran, ofEnding, least}
+use Rattle.run.proofs.RunLaws as run-laws
+use Rattle.play.specs.ByName.{applied, appliedAll}
+use Rattle.play.proofs.Demand3 as scripts
+use Rattle.play.proofs.Idle as idle-laws
+use Rattle.chip.proofs.NameLaws.{Bytes as NamedBytes}
+use Rattle.state.specs.Accesses.{Left}
+use Rattle.state.proofs.Whole as whole-laws
+use Rattle.showing.specs.Show.{textOf}
+use Rattle.composing.specs.Compose.{composed, leftBy as textLeftBy}
+use Rattle.composing.specs.declared.Composed.the-variants.{Blocks as ComposedBlocks}
+use Rattle.composing.proofs.SameFile as same-file-laws
+use Rattle.cases.specs.Cases.{allHold, numbers}
+use Rattle.cases.specs.Starred.{starred}
+use Rattle.cases.proofs.Holding as starred-laws
+use Rattle.request_cases.specs.Asked.{asked}
+use Rattle.request_cases.proofs.Holding as asked-laws
+
+-- ==== 1. Everything is accepted: each number exactly when, and a refusal changes nothing
+
+-- A port access gives 2 where ports are closed, else 1 where the port, in this direction, is not in document 01's list, else 0.
+pub write-numbers : (c : Chip) (p v : ℕ) → numberOf (portWritten c p v .answer) ≡ cond (portsOpen (named c)) (cond (has p (listedPorts true)) 0 1) 2
+write-numbers c p v = number-laws.write-number c p v ∙ number-laws.number-listed true c p
+
+pub read-numbers : (c : Chip) (p : ℕ) → numberOf (portRead c p .answer) ≡ cond (portsOpen (named c)) (cond (has p (listedPorts false)) 0 1) 2
+read-numbers c p = number-laws.read-number c p ∙ number-laws.number-listed false c p
+
+-- A refused access hands back the whole state, and a refused read FFh.
+pub refused-write : (c : Chip) (p v : ℕ) → (numberOf (portWritten c p v .answer) ≡ 0 → ⊥) → portWritten c p v .chip ≡ c
+refused-write = number-laws.write-refused
+
+pub refused-read : (c : Chip) (p : ℕ) → (numberOf (portRead c p .answer) ≡ 0 → ⊥) → (portRead c p .value ≡ 0xFF) × (portRead c p .chip ≡ c)
+refused-read = number-laws.read-refused
+
+-- A byte of memory: 3 exactly when the memory's length is not allowed, 4 exactly when it is and the place lies outside.
+pub byte-numbers : (n at : ℕ) → ((byteNumber n at ≡ 3) ↔ (lengthAllowed n ≡ false)) × ((byteNumber n at ≡ 4) ↔ ((lengthAllowed n ≡ true) × (n ≤ at)))
+byte-numbers n at = (memory-laws.byte-3-exactly n at, memory-laws.byte-4-exactly n at)
+
+-- A transfer: 3 for the length, else 5 for a number out of its range, else 4 for a byte used that lies outside memory, else 0.
+pub transfer-numbers : (n : ℕ) (t : Transfer)
+    → ((judgedNumber n t ≡ 3) ↔ (lengthAllowed n ≡ false))
+    × ((judgedNumber n t ≡ 5) ↔ ((lengthAllowed n ≡ true) × (inRange t ≡ false)))
+    × ((judgedNumber n t ≡ 4) ↔ ((lengthAllowed n ≡ true) × (inRange t ≡ true) × UsedOutside n t))
+transfer-numbers n t = (frame-laws.number-3-exactly n t, frame-laws.number-5-exactly n t, frame-laws.number-4-exactly n t)
+
+pub refused-transfer : (m : List ℕ) (t : Transfer) → (judgedNumber (length m) t ≡ 0 → ⊥) → transferred m t ≡ m
+refused-transfer = blit-laws.refused-numbered
+
+-- A script file: document 01's table, 8, 6, 7 or 11, else the number of its steps.
+pub file-numbers : (f : List ℕ) → ofChecked (checked f) ≡ fileTable f
+file-numbers = checking.checked-number
+
+-- A run counts the least of the limit, the commands there are and those before the first refused one.
+pub run-count : (c : Chip) (bytes : List ℕ) (limit : ℕ) → ran c bytes limit .count ≡ least c bytes limit
+run-count = run-laws.count-least
+
+-- What a call leaves of lent bytes is decided, byte for byte.
+pub lent-decided : (l : List ℕ) (c : Chip) (bits : ℕ) (m n : List ℕ) → Left l c bits m → Left l c bits n → m ≡ n
+lent-decided = whole-laws.left-decides
+
+-- ==== 2. It is the chip
+
+-- The write rule, over any mask: a writable bit becomes the byte's, any other stays.
+pub write-rule : (k old new mask : ℕ) → k < 8 → mask < 0x100 → bit k (written old new mask) ≡ cond (isSet k mask) (bit k new) (bit k old)
+write-rule = write-laws.bit-written
+
+-- A register that receives a byte: its bits by that rule, and no other register changes.
+pub received-bits : (k : ℕ) (g : Group) (n : Named) (i v : ℕ) → k < 8 → Has g n i
+    → bit k (register g (received g n i v) i) ≡ cond (isSet k (writableAt g n i)) (bit k v) (bit k (register g n i))
+received-bits = name-laws.received-bit
+
+pub received-elsewhere : (g h : Group) (n : Named) (i v k : ℕ) → Different g i h k → register h (received g n i v) k ≡ register h n k
+received-elsewhere = name-laws.received-other
+
+-- In every state that accesses reach from a reset, bits that are not writable keep the reset's value, and an unlisted index reads 00h.
+pub bits-fixed : {first second : ℕ} {c : Chip} → Reach first second c → (g : Group) (i k : ℕ) → i < 0x100 → k < 8 → bit k (writableOf g i) ≡ 0
+    → bit k (register g (named c) i) ≡ bit k (resetByte first second g i)
+bits-fixed = reach-laws.fixed-bits
+
+pub unlisted-00 : {first second : ℕ} {c : Chip} → first < 0x100 → second < 0x100 → Reach first second c → (g : Group) (i : ℕ) → i < 0x100
+    → rowOf g i ≡ Unlisted → register g (named c) i ≡ 0x00
+unlisted-00 = reach-laws.unlisted-reads-00
+
+-- Document 01's rows, and its table of ports with document 02's, P1.
+pub rows-printed : asPrinted printed ≡ true
+rows-printed = printed-rows.printed-rows
+
+pub ports-printed : (colour : Bool) → linesFrom colour 0x3B0 0x30 ≡ documented colour
+ports-printed = port-laws.ports-documented
+
+-- A pixel shows the entry at the pixel AND PALMASK, in eight-bit mode as stored, in six-bit mode four times each component modulo 64.
+pub pixel-shown : (n : Named) (p e : ℕ) → p < 0x100 → e < 0x100 → ((k : ℕ) → k < 8 → bit k e ≡ bit k p * bit k (register Palmask n 0x00))
+    → (eightBit n ≡ true → shown n p ≡ entry n e)
+    × (eightBit n ≡ false → shown n p ≡ rgb (4 * (entry n e .red % 64)) (4 * (entry n e .green % 64)) (4 * (entry n e .blue % 64)))
+pixel-shown n p e hp he both = (shown-laws.shown-eight n p e hp he both, shown-laws.shown-six n p e hp he both)
+
+-- A script written into blocks reads back as the same steps, and accepted blocks write back to the same bytes.
+pub written-reads-back : (s : List ℕ) (room n : ℕ) → listWritten s room ≡ Blocks n
+    → (checked (fileOf s) ≡ Accepted (length s / 6)) × (stepsOf (fileOf s) (length s / 6) ≡ s)
+    × ((j : ℕ) → length s / 6 ≤ j → nextOf (fileOf s) j ≡ End)
+written-reads-back s room n e = let r = round-trip.written-read s room n e in (r .accepted, r .steps, r .end)
+
+pub read-writes-back : (f : List ℕ) (m : ℕ) → Bytes f → checked f ≡ Accepted m → (out : List ℕ) → length f ≤ length out
+    → (listWritten (stepsOf f m) (length out) ≡ Blocks (blocks f)) × (listLeftBy (Blocks (blocks f)) (stepsOf f m) out ≡ put out 0 f)
+read-writes-back f m bytes acc out h = let r = round-trip.read-written f m bytes acc out h in (r .answer, r .left)
+
+-- The text that is shown of an accepted file composes to the same file.
+pub shown-composes-back : (f : List ℕ) (m : ℕ) → Bytes f → checked f ≡ Accepted m → (out : List ℕ) → length f ≤ length out
+    → (composed (textOf f) (length out) ≡ ComposedBlocks (blocks f)) × (textLeftBy (ComposedBlocks (blocks f)) (textOf f) out ≡ put out 0 f)
+shown-composes-back f m bytes acc out h = let r = same-file-laws.same-file f m bytes acc out h in (r .answer, r .left)
+
+-- ==== 3. A script does what it says, from any state that accesses reach from a reset with ports open
+
+-- After the commands of the first n steps of an accepted file: all were carried out and none refused, everything that has a name is what
+-- these steps say by name, and bit 5 of the attribute index is what it was.
+pub demand-3 : (file : List ℕ) (m : ℕ) → checked file ≡ Accepted m → (first second : ℕ) → isSet 1 first ≡ true → (c : Chip) → Reach first second c
+    → (n : ℕ) → n ≤ m
+    → (ran c (bytesOfAll (commandsTo file m)) (begins file n) .count ≡ begins file n)
+    × (ofEnding (ran c (bytesOfAll (commandsTo file m)) (begins file n) .ending) ≡ returned 0 0)
+    × (named (ran c (bytesOfAll (commandsTo file m)) (begins file n) .chip) ≡ appliedAll (stepsTo file n) (named c))
+    × (ran c (bytesOfAll (commandsTo file m)) (begins file n) .chip .picture ≡ c .picture)
+demand-3 file m acc first second strapped c reach n h =
+    let r = scripts.demand-3 .holds file m acc first second strapped c reach n h in
+    (r .count, r .unrefused, r .byName, r .picture)
+
+-- ==== Document 01's set-ups, and those of requests
+
+pub starred-cases : allHold starred ≡ true
+starred-cases = starred-laws.starred-hold
+
+pub asked-cases : allHold asked ≡ true
+asked-cases = asked-laws.requests-hold
+
+-- ==== Document 02's requests
+
+-- P1. An index and then a byte at 3C0h, from the index's turn, is a write by name under the picture that the index brings; a read of
+-- input status 1 returns the turn.
+pub P1-attribute-by-port : (c : Chip) → portsOpen (named c) ≡ true → (v b : ℕ) → c .indexes .turn ≡ false
+    → portWritten (portWritten c 0x3C0 v .chip) 0x3C0 b
+    ≡ wrote Done (join (received Ar (withPicture (named c) (isSet 5 v)) (v % 32) b) (withTurn (withIndex Ar (c .indexes) v) false) (c .loading))
+P1-attribute-by-port = attribute-laws.attribute-by-port
+
+-- P2. A step is refused with 7 where it is not legal, else with 11 where its register has no writable bit, else it passes; a step refused
+-- with 11 would have changed no register.
+pub P2-first-7 : (s : Step) → legal s ≡ false → judged s ≡ Refused Unallowed
+P2-first-7 = lawful.unallowed-first
+
+pub P2-then-11 : (s : Step) → legal s ≡ true → idle s ≡ true → judged s ≡ Refused Idle
+P2-then-11 = lawful.idle-second
+
+pub P2-changes-nothing : (s : Step) (n : Named) → NamedBytes n → idle s ≡ true → (h : Group) (j : ℕ) → register h (applied s n) j ≡ register h n j
+P2-changes-nothing = idle-laws.idle-keeps
+
+-- P3. Each printed row of appendix E is the raster byte of its code, for all bytes.
+pub P3-appendix-E : (j p s d : ℕ) → j < length printedCodes → p < 256 → s < 256 → d < 256 → value 255 (inputs (λ k. 0) p s d) (getD printedCodes j (0, zeros) .1) ≡ raster (getD printedCodes j (0, zeros) .0) p s d
+P3-appendix-E = appendix-laws.appendix-E
+
+-- P5. At a port a long index is the same as its short one; in a step an index that does not fit its group is refused with 7.
+pub P5-folds-at-the-port : (c : Chip) (p v : ℕ) (g : Group) → portsOpen (named c) ≡ true → target (colour (named c)) true p ≡ Index g
+    → portWritten c p v ≡ portWritten c p (indexKept g v)
+P5-folds-at-the-port = index-laws.index-folds
+
+pub P5-misfit-is-7 : (g i : ℕ) → fits (groupAt g) i ≡ false → ((v : ℕ) → judged (Set g i v) ≡ Refused Unallowed) × ((v m : ℕ) → judged (Field g i v m) ≡ Refused Unallowed)
+P5-misfit-is-7 g i misfit = (lawful.misfit-set g i misfit, lawful.misfit-field g i misfit)
