@@ -1,4 +1,5 @@
--- Every starred case holds, computed from the definitions; and the table has document 01's starred cases, each once.
+-- Every starred case holds, computed from the definitions, and the table has document 01's starred cases, each once; and every
+-- witness of a must-fail edit is as its row says.
 use mathlib.Core.Bool.{true}
 use mathlib.Core.List.{[], _∷_}
 use mathlib.Core.Path.{_≡_, refl}
@@ -28,8 +29,9 @@ use Rattle.writer.specs.Write.{front, blocksTo, written as fileWritten}
 use Rattle.commands.specs.Command.{bytesOfAll}
 use Rattle.commands.specs.Expansion.{ways, expanded}
 
-use Rattle.cases.specs.Cases.{numbers, allHold}
+use Rattle.cases.specs.Cases.{numbers, rowsHold, allHold}
 use Rattle.cases.specs.Starred.{starred}
+use Rattle.cases.specs.Witnesses.{witnesses}
 
 pub starred-hold : allHold starred ≡ true
 unfolding starred CR SR GR XR MR AR indexKept groupAt rowOf lockedBy leftOpen writableNow written ports target locked received portsOpen colour eightBit coloured loaded shown portWritten portRead resetByte filled reset number raster usesSource usesPattern byteDone inTurn lineDone linesDone inRange inMemory transferred firstNot every tab names legal fits idle judged shaped stepOf bytesOf wordSum stepsChecked front blocksTo fileWritten bytesOfAll ways expanded
@@ -38,3 +40,7 @@ starred-hold = refl
 pub starred-numbers : numbers starred ≡ 1 ∷ 2 ∷ 4 ∷ 6 ∷ 7 ∷ 8 ∷ 9 ∷ 10 ∷ 12 ∷ 13 ∷ []
 unfolding starred
 starred-numbers = refl
+
+pub witnesses-hold : rowsHold witnesses ≡ true
+unfolding witnesses CR SR GR XR MR AR indexKept groupAt rowOf lockedBy leftOpen writableNow written ports target locked received portsOpen colour eightBit coloured loaded shown portWritten portRead resetByte filled reset number raster usesSource usesPattern byteDone inTurn lineDone linesDone inRange inMemory transferred firstNot every tab names legal fits idle judged shaped stepOf bytesOf wordSum stepsChecked front blocksTo fileWritten bytesOfAll ways expanded
+witnesses-hold = refl

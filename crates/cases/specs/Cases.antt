@@ -103,9 +103,16 @@ abbrev pub numbers : List Case → List ℕ
 numbers [] = []
 numbers (c ∷ cs) = c .number ∷ numbers cs
 
+abbrev pub rows : List Case → List Row
+rows [] = []
+rows (c ∷ cs) = c .row ∷ rows cs
+
+abbrev pub rowsHold : List Row → Bool
+rowsHold [] = true
+rowsHold (r ∷ rs) = holds r && rowsHold rs
+
 abbrev pub allHold : List Case → Bool
-allHold [] = true
-allHold (c ∷ cs) = holds (c .row) && allHold cs
+allHold cs = rowsHold (rows cs)
 
 -- a row under its number
 abbrev pub case : ℕ → Row → Case

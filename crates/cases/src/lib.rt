@@ -1,4 +1,5 @@
-// Set-ups to try: what a case of a table can say (specs/Cases), document 01's starred ones (specs/Starred), and in code what the program
+// Set-ups to try: what a case of a table can say (specs/Cases), document 01's starred ones (specs/Starred), the
+// witnesses of must-fail edits (specs/Witnesses), and in code what the program
 // `setups` asks of a chip. The cases of document 02's requests are crate `request_cases`.
 ghost use mathlib.Core.Path.{_≡_};
 ghost use Rattle.chip.specs.Access.{numberOf, portWritten, portRead};
