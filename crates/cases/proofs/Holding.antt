@@ -28,7 +28,6 @@ use Rattle.script.specs.File.{stepsChecked}
 use Rattle.writer.specs.Write.{front, blocksTo, written as fileWritten}
 use Rattle.commands.specs.Command.{bytesOfAll}
 use Rattle.commands.specs.Expansion.{ways, expanded}
-
 use Rattle.cases.specs.Cases.{numbers, rowsHold, allHold}
 use Rattle.cases.specs.Starred.{starred}
 use Rattle.cases.specs.Witnesses.{witnesses}

@@ -21,9 +21,10 @@ allowed n e =
     (leb-true _ _ (h .0), leb-true _ _ (h .1))
 
 pub allowed-exactly : (n : ℕ) → (lengthAllowed n ≡ true) ↔ ((4096 ≤ n) × (n ≤ 2097152) × (n % 4 ≡ 0))
-allowed-exactly n =
-    (λ e. (allowed n e .0, allowed n e .1, eqb-true _ _ (and-both (leb 4096 n && leb n 2097152) (eqb (n % 4) 0) e .1)),
-    λ h. both-and (both-and (le-leb _ _ (h .0)) (le-leb _ _ (h .1))) (eq-eqb _ _ (h .2)))
+allowed-exactly n = (
+  λ e. (allowed n e .0, allowed n e .1, eqb-true _ _ (and-both (leb 4096 n && leb n 2097152) (eqb (n % 4) 0) e .1)),
+  λ h. both-and (both-and (le-leb _ _ (h .0)) (le-leb _ _ (h .1))) (eq-eqb _ _ (h .2)),
+)
 
 -- ---- the numbers of a read and a write
 

@@ -26,7 +26,6 @@ use Rattle.script.specs.File.{stepsChecked}
 use Rattle.writer.specs.Write.{front, blocksTo, written as fileWritten}
 use Rattle.commands.specs.Command.{bytesOfAll}
 use Rattle.commands.specs.Expansion.{ways, expanded}
-
 use Rattle.cases.specs.Cases.{allHold}
 use Rattle.request_cases.specs.Asked.{asked}
 
