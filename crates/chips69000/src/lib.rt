@@ -16,6 +16,7 @@ use restart::restart;
 use state::access::read_word;
 use state::access::write_number;
 
+pub mod begins;
 pub mod names;
 pub mod scripts;
 pub mod video;

@@ -2,12 +2,12 @@
 // number 9 for commands; document 02, P1, for group 8. Running them is crate `run`'s.
 ghost use mathlib.Core.Path.{_≡_};
 ghost use mathlib.Core.List.{[], _∷_};
-ghost use Prim.Native.Nat.{_+_, _*_, _≤_, _%_, _/_};
+ghost use Prim.Native.Nat.{ℕ, _+_, _*_, _≤_, _%_, _/_};
 ghost use lib.ListN.{length};
 ghost use Rattle.script.specs.File.{checked};
 ghost use Rattle.commands.specs.Command.{bytesOf, commandOf};
 ghost use Rattle.commands.specs.Expansion.{ways as waysOf, turned, setBy, fieldBy, expanded};
-ghost use Rattle.commands.specs.Translation.{Sent, commandsTo, translated, leftBy, numbersOf, translationTable};
+ghost use Rattle.commands.specs.Translation.{Sent, withoutStep, StepsPut, begins, translated, leftBy, begun, numbersOf, translationTable, begunTable};
 use reader::nth;
 use script::Checked;
 use script::Next;
@@ -242,21 +242,33 @@ fn put_step(out: &mut [u8], at: usize, s: Step) -> usize
     }
 }
 
-// The commands of the steps of an accepted file; where they end.
-fn put_steps(file: &[u8], m: usize, out: &mut [u8]) -> usize
+// What is answered where the reader hands out no step: its refusal, or at the end the commands so far.
+fn without_step(next: Next, k: usize) -> Translated
+    ensures { λ r. ⌜ r ≡ withoutStep next k ⌝ }
+{
+    match next {
+        Next::Found(_) => Translated::Commands(k),
+        Next::Refused(why) => Translated::Refused(why),
+        Next::End => Translated::Commands(k),
+    }
+}
+
+// The commands of the steps of an accepted file; how many there are. A refusal goes straight out.
+fn put_steps(file: &[u8], m: usize, out: &mut [u8]) -> Translated
     requires { ⌜ (checked (now file) ≡ Checked.Accepted m) × (32 * m ≤ length (now out)) ⌝ }
-    ensures { λ r. ⌜ Sent (now (out .entry)) 0 (commandsTo (now (file .entry)) m) (now (out .exit)) r ⌝ }
+    ensures { λ r. ⌜ StepsPut (now (file .entry)) m (now (out .entry)) (now (out .exit)) r ⌝ }
 {
     let mut at = 0;
     let mut j = 0;
     while j < m {
-        let Next::Found(step) = nth(file, j) else {
-            return at;
+        let next = nth(file, j);
+        let Next::Found(step) = next else {
+            return without_step(next, at / 4);
         };
         at = put_step(out, at, step);
         j += 1;
     }
-    at
+    Translated::Commands(at / 4)
 }
 
 // A script file translated into commands: 8, then 6, then 7 or 11, then 9; else how many there are.
@@ -271,7 +283,88 @@ pub fn translate(file: &[u8], out: &mut [u8]) -> Translated
             if out.len() / 32 < m {
                 return Translated::Refused(Refusal::Room);
             }
-            Translated::Commands(put_steps(file, m, out) / 4)
+            put_steps(file, m, out)
         }
+    }
+}
+
+// How many commands a SET has.
+fn set_count(w: Ways) -> usize
+    ensures { λ r. ⌜ ((i v : ℕ) → r ≡ length (setBy w i v)) ⌝ }
+{
+    match w {
+        Ways::Pair(_, _) => 2,
+        Ways::Pairs(_, _, _, _) => 4,
+        Ways::Direct(_, _) => 1,
+        Ways::Turns(_, _) => 6,
+        Ways::Nowhere => 0,
+    }
+}
+
+// How many commands a FIELD has.
+fn field_count(w: Ways) -> usize
+    ensures { λ r. ⌜ ((i k v : ℕ) → r ≡ length (fieldBy w i k v)) ⌝ }
+{
+    match w {
+        Ways::Pair(_, _) => 4,
+        Ways::Pairs(_, _, _, _) => 8,
+        Ways::Direct(_, _) => 3,
+        Ways::Turns(_, _) => 8,
+        Ways::Nowhere => 0,
+    }
+}
+
+// How many commands a step has.
+fn command_count(s: Step) -> usize
+    ensures { λ r. ⌜ r ≡ length (expanded s) ⌝ }
+{
+    match s {
+        Step::Set {
+            group,
+            index: _,
+            value: _,
+        } => set_count(ports_of(group)),
+        Step::Field {
+            group,
+            index: _,
+            value: _,
+            mask: _,
+        } => field_count(ports_of(group)),
+        Step::Colour {
+            entry: _,
+            red: _,
+            green: _,
+            blue: _,
+        } => 4,
+    }
+}
+
+// How many commands the first n steps of an accepted file have.
+fn count_steps(file: &[u8], n: usize) -> Translated
+    requires { ⌜ ((m : ℕ) × (checked (now file) ≡ Checked.Accepted m)) ⌝ }
+    ensures { λ r. ⌜ r ≡ Translated.Commands (begins (now (file .entry)) n) ⌝ }
+{
+    let mut k = 0;
+    let mut j = 0;
+    while j < n {
+        let next = nth(file, j);
+        let Next::Found(step) = next else {
+            return without_step(next, k);
+        };
+        k += command_count(step);
+        j += 1;
+    }
+    Translated::Commands(k)
+}
+
+// Where the commands of step n of a file begin: 8, then 6, then 7 or 11; else how many commands the steps before it have. Past
+// the last step that is all there are.
+pub fn step_commands(file: &[u8], n: usize) -> Translated
+    ensures { λ r. ⌜ r ≡ begun (now (file .entry)) n ⌝ }
+    ensures { λ r. ⌜ numbersOf r ≡ begunTable (now (file .entry)) n ⌝ }
+{
+    match check_file(file) {
+        Checked::Refused(r) => Translated::Refused(r),
+        Checked::Accepted(_) => count_steps(file, n),
     }
 }

@@ -8,13 +8,15 @@ use mathlib.Core.List.{List, [], _∷_, _++_}
 use lib.Dec.{ltb}
 use lib.ListN.{length}
 use Rattle.lists.specs.Put.{put}
-use Rattle.steps.specs.Step.{judged, bytesOf, faultNumber}
+use Rattle.lists.specs.Numbers.{Returned, returned}
+use Rattle.steps.specs.Step.{legal, idle, judged, bytesOf, faultNumber}
 use Rattle.steps.specs.declared.StepRead.{StepRead}
 use Rattle.steps.specs.declared.StepRead.the-variants.{Good, Refused as NoStep}
 use Rattle.spelling.specs.Reading.{lineOf}
 use Rattle.spelling.specs.declared.Line.{Line}
 use Rattle.spelling.specs.declared.Line.the-variants.{Pass, Is, Other}
-use Rattle.writer.specs.Write.{fileOf, written}
+use Rattle.script.specs.Numbers.{ofRefusal}
+use Rattle.writer.specs.Write.{fileOf, written, listTable}
 use Rattle.writer.specs.declared.Written.{Written}
 use Rattle.writer.specs.declared.Written.the-variants.{Blocks as InBlocks, Refused as NotWritten}
 use Rattle.composing.specs.Lines.{linesOf}
@@ -77,3 +79,24 @@ verdictNumber Fine = 0
 verdictNumber Form = 0
 verdictNumber (Step why) = faultNumber why
 verdictNumber Many = 8
+
+-- number and value for each answer: a line that is not fine with its place, and what the writer refuses
+abbrev pub ofComposed : Composed → Returned
+ofComposed (Blocks n) = returned 0 n
+ofComposed (Stopped v k) = returned (verdictNumber v) k
+ofComposed (Refused r) = ofRefusal r
+
+-- the table of numbers for line k, with so many bytes of steps before it: 7, then 11, then 8 for the 1,009th step, else what
+-- comes after
+abbrev pub lineTable : Line → ℕ → ℕ → Returned → Returned
+lineTable Pass size k rest = rest
+lineTable (Is s) size k rest = cond (legal s) (cond (idle s) (returned 11 k) (cond (ltb size 6048) rest (returned 8 k))) (returned 7 k)
+lineTable Other size k rest = returned 0 k
+
+-- .. and for a text: its lines in order, then the writer's
+unfoldable pub linesTable : ℕ → List ℕ → List (List ℕ) → ℕ → Returned
+linesTable k steps [] room = listTable steps room
+linesTable k steps (l ∷ ls) room = lineTable (lineOf l) (length steps) k (linesTable (k + 1) (withLine (lineOf l) steps) ls room)
+
+abbrev pub composedTable : List ℕ → ℕ → Returned
+composedTable text room = linesTable 0 [] (linesOf text) room

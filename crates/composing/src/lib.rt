@@ -7,7 +7,7 @@ ghost use Prim.Native.Nat.{_+_, _≤_, _<_};
 ghost use lib.ListN.{length};
 ghost use Rattle.text.specs.Adding.{withAddedIn, behindIn, Added};
 ghost use Rattle.writer.specs.Write.{written, leftBy as writtenBy};
-ghost use Rattle.composing.specs.Compose.{stepVerdict, verdict, verdictNumber, ofWriter, composed, leftBy};
+ghost use Rattle.composing.specs.Compose.{stepVerdict, verdict, verdictNumber, ofWriter, composed, leftBy, ofComposed, composedTable};
 ghost use Rattle.composing.specs.Complaint.{lineNumber, wrong, stoppedText, refusalText, complaint};
 ghost use Rattle.composing.specs.Working.{isFine, LineEnds, lineSize, Kept, Gathers};
 use script::Refusal;
@@ -179,6 +179,7 @@ fn compose_with(text: &[u8], steps: &mut [u8], out: &mut [u8]) -> Composed
 pub fn compose(text: &[u8], out: &mut [u8]) -> Composed
     ensures { λ r. ⌜ r ≡ composed (now (text .entry)) (length (now (out .entry))) ⌝ }
     ensures { λ r. ⌜ now (out .exit) ≡ leftBy r (now (text .entry)) (now (out .entry)) ⌝ }
+    ensures { λ r. ⌜ ofComposed r ≡ composedTable (now (text .entry)) (length (now (out .entry))) ⌝ }
 {
     let mut steps = step_buffer();
     compose_with(text, &mut steps, out)

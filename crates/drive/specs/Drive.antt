@@ -4,11 +4,13 @@ use Prim.Native.Nat.{ℕ}
 use mathlib.Core.Path.{_≡_}
 use mathlib.Core.Bool.{cond}
 use mathlib.Core.List.{List}
-use Rattle.run.specs.Run.{ran}
+use Rattle.lists.specs.Numbers.{Returned, returned}
+use Rattle.run.specs.Run.{ran, ofEnding, runTable}
 use Rattle.run.specs.declared.Did.{Did}
 use Rattle.run.specs.declared.Ran.{Ran}
 use Rattle.state.specs.Layout.{view, spare, Holds}
 use Rattle.state.specs.Accesses.{isState}
+use Rattle.state.specs.Numbers.{noState}
 use Rattle.drive.specs.declared.Driven.{Driven}
 use Rattle.drive.specs.declared.Driven.the-variants.{Ran as DrivenRan, Length}
 use Rattle.drive.specs.declared.Turn.{Turn}
@@ -17,6 +19,15 @@ use Rattle.drive.specs.declared.Outcome.{Outcome}
 -- the answer: how many commands were carried out and how the run ended, or that the bytes are no state
 abbrev pub driveAnswer : List ℕ → List ℕ → ℕ → Driven
 driveAnswer l bytes limit = cond (isState l) (DrivenRan (ran (view l) bytes limit .count) (ran (view l) bytes limit .ending)) Length
+
+-- its number and value: those of the ending, or that the bytes are no state
+abbrev pub ofDriven : Driven → Returned
+ofDriven (DrivenRan n e) = ofEnding e
+ofDriven Length = returned noState 0
+
+-- the table of numbers for a run on lent bytes: that of the run on the chip that they hold
+abbrev pub driveTable : List ℕ → List ℕ → ℕ → Returned
+driveTable l bytes limit = cond (isState l) (runTable (view l) bytes limit) (returned noState 0)
 
 -- one command on a state: what is left of the bytes l is what it did
 pub record DidIn (l : List ℕ) (d : Did) (m : List ℕ) (t : Turn) : Type 0 where

@@ -7,7 +7,7 @@ ghost use Rattle.commands.specs.Command.{commandOf};
 ghost use Rattle.run.specs.Run.{answered, afterWrite, afterRead, done, one, ran as ranOf};
 ghost use Rattle.state.specs.Layout.{whole, view, spare};
 ghost use Rattle.state.specs.Accesses.{Left};
-ghost use Rattle.drive.specs.Drive.{driveAnswer, DidIn, RanIn};
+ghost use Rattle.drive.specs.Drive.{driveAnswer, ofDriven, driveTable, DidIn, RanIn};
 use chip::access::Answer;
 use commands::Command;
 use commands::CommandRead;
@@ -166,6 +166,7 @@ fn run_in(state: &mut [u8], commands: &[u8], limit: usize) -> Outcome
 pub fn drive(state: &mut [u8], commands: &[u8], limit: usize) -> Driven
     ensures { λ r. ⌜ r ≡ driveAnswer (now (state .entry)) (now (commands .entry)) limit ⌝ }
     ensures { λ _. ⌜ Left (now (state .entry)) (ranOf (view (now (state .entry))) (now (commands .entry)) limit .chip) (spare (now (state .entry))) (now (state .exit)) ⌝ }
+    ensures { λ r. ⌜ ofDriven r ≡ driveTable (now (state .entry)) (now (commands .entry)) limit ⌝ }
 {
     if state.len() != STATE {
         return Driven::Length;

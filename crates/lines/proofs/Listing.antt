@@ -9,6 +9,7 @@ use lib.Dec.{ltb}
 use lib.ListN.{length, length-append}
 use borrow.Author.Tests.{lt-ltb, le-ltb, ltb-false}
 use Rattle.lists.specs.Put.{put}
+use Rattle.lists.proofs.Tests.{of-cond}
 use Rattle.script.specs.File.{stepCount, checked}
 use Rattle.script.specs.declared.Checked.{Checked}
 use Rattle.script.specs.declared.Checked.the-variants.{Accepted, Refused as NotAccepted}
@@ -22,9 +23,10 @@ use Rattle.commands.specs.declared.Translated.the-variants.{Commands, Refused}
 use Rattle.commands.proofs.Expanding.{begins-most}
 use Rattle.text.specs.Digits.{decimal}
 use Rattle.lines.specs.Line.{linesOf}
-use Rattle.lines.specs.Text.{header, refusal, textBy, text, wanted, listed, leftBy}
+use Rattle.lines.specs.Text.{header, refusal, textBy, text, wanted, listed, leftBy, ofListed, listedTable}
 use Rattle.text.specs.Adding.{Added}
 use Rattle.lines.specs.Adding.{linesTo}
+use Rattle.lines.specs.declared.Listed.{Listed}
 use Rattle.lines.specs.declared.Listed.the-variants.{Text, Short}
 use Rattle.text.proofs.DigitLaws.{decimal-most}
 use Rattle.lines.proofs.Adding.{lines-read}
@@ -85,3 +87,13 @@ module _ (f : List ℕ) (work : ℕ) (out : List ℕ) (t : Translated) (is : tra
       let k : length x ≡ length (textBy t f) = ap length e in
       let l : n ≡ length (textBy t f) = omega (arith, a .next) in
       (rw (is, le-ltb _ _ h, l), a .now ∙ ap (put out 0) (e ∙ ap (λ (u : Translated). textBy u f) (sym is)))
+
+-- ---- the answer's number: 9 exactly where the room is too little, and else 0 with the text's length
+pub listed-number : (f : List ℕ) (work room : ℕ) → ofListed (listed f work room) ≡ listedTable f work room
+unfolding listed
+listed-number f work room = of-cond ofListed (ltb room (wanted (translated f work))) Short (Text (length (text f work)))
+
+-- what the contract of `list` says, from the answer and what is left
+pub listed-answered : {A B : Type 0} (f : List ℕ) (work room : ℕ) {r : Listed} → r ≡ listed f work room → A → B
+    → (r ≡ listed f work room) × (A × (B × (ofListed r ≡ listedTable f work room)))
+listed-answered f work room e a b = (e, (a, (b, ap ofListed e ∙ listed-number f work room)))

@@ -9,11 +9,9 @@ use mathlib.Core.List.{List, [], _∷_, _++_}
 use lib.Dec.{ltb, eqb}
 use lib.ListN.{length, take, length-append}
 use borrow.Author.Tests.{le-ltb, ltb-false}
-use Rattle.lists.proofs.Tests.{of-cond}
 use Rattle.steps.specs.declared.Step.{Step}
 use Rattle.steps.specs.declared.Step.the-variants.{Set, Field, Colour}
 use Rattle.script.specs.File.{wholeBlocks, stepCount, checked}
-use Rattle.lists.specs.Numbers.{returned}
 use Rattle.script.specs.Numbers.{ofRefusal}
 use Rattle.script.specs.declared.Checked.{Checked}
 use Rattle.script.specs.declared.Checked.the-variants.{Accepted, Refused as NotAccepted}
@@ -28,7 +26,7 @@ use Rattle.commands.specs.declared.Ways.the-variants.{Pair, Pairs, Direct, Turn
 use Rattle.commands.specs.declared.Translated.{Translated}
 use Rattle.commands.specs.declared.Translated.the-variants.{Commands, Refused}
 use Rattle.lines.specs.Line.{line, linesOf}
-use Rattle.lines.specs.Text.{header, refusal, textBy, text, wanted, listed, ofListed}
+use Rattle.lines.specs.Text.{header, refusal, textBy, text, wanted, listed}
 use Rattle.lines.specs.declared.Listed.the-variants.{Text, Short}
 use Rattle.lines.proofs.Adding.{line-most}
 use Rattle.lines.proofs.Listing.{header-most, refusal-most, translated-few}
@@ -80,12 +78,6 @@ unfolding listed
 listed-whole f work room h =
     let w : wanted (translated f work) ≤ room = omega (arith, wanted-most f work) in
     rw (le-ltb _ _ w)
-
--- the answer's number: 9 exactly where the room is too little, and else 0 with the text's length
-pub listed-number : (f : List ℕ) (work room : ℕ)
-    → ofListed (listed f work room) ≡ cond (ltb room (wanted (translated f work))) (returned 9 0) (returned 0 (length (text f work)))
-unfolding listed
-listed-number f work room = of-cond ofListed (ltb room (wanted (translated f work))) Short (Text (length (text f work)))
 
 -- ---- the text of the file alone
 abbrev pub checkedText : Checked → List ℕ → List ℕ

@@ -55,3 +55,7 @@ leftBy Short f work out = out
 abbrev pub ofListed : Listed → Returned
 ofListed (Text n) = returned 0 n
 ofListed Short = returned 9 0
+
+-- the table of numbers for a listing: 9 where the output has too little room for the text; else its length
+abbrev pub listedTable : List ℕ → ℕ → ℕ → Returned
+listedTable f work room = cond (ltb room (wanted (translated f work))) (returned 9 0) (returned 0 (length (text f work)))

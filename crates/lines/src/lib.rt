@@ -8,7 +8,7 @@ ghost use lib.ListN.{length};
 ghost use Rattle.commands.specs.Translation.{translated, leftBy as translatedBy};
 ghost use Rattle.text.specs.Digits.{decimal};
 ghost use Rattle.lines.specs.Line.{line};
-ghost use Rattle.lines.specs.Text.{header, refusal, listed, leftBy};
+ghost use Rattle.lines.specs.Text.{header, refusal, listed, leftBy, ofListed, listedTable};
 ghost use Rattle.text.specs.Adding.{Added};
 ghost use Rattle.lines.specs.Adding.{lineRead, linesTo};
 use commands::Command;
@@ -173,6 +173,7 @@ pub fn list(file: &[u8], work: &mut [u8], out: &mut [u8]) -> Listed
     ensures { λ r. ⌜ r ≡ listed (now (file .entry)) (length (now (work .entry))) (length (now (out .entry))) ⌝ }
     ensures { λ r. ⌜ now (out .exit) ≡ leftBy r (now (file .entry)) (length (now (work .entry))) (now (out .entry)) ⌝ }
     ensures { λ r. ⌜ now (work .exit) ≡ translatedBy (translated (now (file .entry)) (length (now (work .entry)))) (now (file .entry)) (now (work .entry)) ⌝ }
+    ensures { λ r. ⌜ ofListed r ≡ listedTable (now (file .entry)) (length (now (work .entry))) (length (now (out .entry))) ⌝ }
 {
     match translate(file, work) {
         Translated::Refused(r) => {

@@ -1,10 +1,13 @@
 -- From the translation and the run on lent bytes to what `played` says of the chip that they hold; and what that means by name.
 use Prim.Native.Nat.{ℕ}
 use mathlib.Core.Path.{_≡_, refl, ap, sym, _∙_}
+use mathlib.Core.Bool.{cond}
 use mathlib.Core.List.{List}
 use lib.ListN.{length}
 use native.Mathlib.Omega.{arith}
 use borrow.Author.Tests.{eq-eqb, ne-eqb}
+use Rattle.lists.specs.Numbers.{Returned, returned}
+use Rattle.lists.proofs.Tests.{of-cond}
 use Rattle.script.specs.File.{stepCount}
 use Rattle.script.specs.declared.Refusal.{Refusal}
 use Rattle.commands.specs.Command.{bytesOfAll}
@@ -17,15 +20,16 @@ use Rattle.play.specs.Played.{played, performed}
 use Rattle.play.specs.declared.Outcome.{Outcome}
 use Rattle.play.specs.declared.Outcome.the-variants.{NotPlayed, Played}
 use Rattle.play.specs.declared.Performance.{Performance}
-use Rattle.play.proofs.Playing.{played-commands, played-refused, by-name}
+use Rattle.play.proofs.Playing.{played-commands, played-refused, by-name, played-number}
 use Rattle.state.specs.Layout.{whole, view, spare, Holds}
-use Rattle.state.specs.Accesses.{Left}
+use Rattle.state.specs.Accesses.{isState, Left}
+use Rattle.state.specs.Numbers.{noState}
 use Rattle.state.proofs.Holding.{as-it-is}
 use Rattle.state.proofs.Reached.{left-held, left-kept}
 use Rattle.drive.specs.Drive.{driveAnswer}
 use Rattle.drive.specs.declared.Driven.{Driven}
 use Rattle.drive.specs.declared.Driven.the-variants.{Ran as DrivenRan, Length as DrivenLength}
-use Rattle.perform.specs.Perform.{performAnswer, bufferLeft, ByNameIn}
+use Rattle.perform.specs.Perform.{performAnswer, bufferLeft, ByNameIn, ofPerformed, performTable}
 use Rattle.perform.specs.declared.Performed.{Performed}
 use Rattle.perform.specs.declared.Performed.the-variants.{Met, Length}
 
@@ -34,6 +38,18 @@ pub record Did (l file : List ℕ) (room : ℕ) (m : List ℕ) (r : Performed) :
   pub answer : r ≡ performAnswer l file room
   pub left : Left l (played (view l) file room .chip) (spare l) m
   pub byName : ByNameIn l file room m r
+
+-- its number and value are those of the table
+perform-number : (l file : List ℕ) (room : ℕ) → ofPerformed (performAnswer l file room) ≡ performTable l file room
+perform-number l file room =
+    of-cond ofPerformed (isState l) (Met (played (view l) file room .outcome)) Length
+    ∙ ap (λ (x : Returned). cond (isState l) x (returned noState 0)) (played-number (view l) file room)
+
+-- what the contract of `perform` says, from that and the buffer
+pub perform-answered : {l file : List ℕ} {room : ℕ} {m : List ℕ} {r : Performed} {out left : List ℕ} → Did l file room m r → out ≡ left
+    → (r ≡ performAnswer l file room) × (Left l (played (view l) file room .chip) (spare l) m × (ByNameIn l file room m r × ((out ≡ left) × (ofPerformed r ≡ performTable l file room))))
+perform-answered {l} {file} {room} d buffer =
+    (d .answer, (d .left, (d .byName, (buffer, ap ofPerformed (d .answer) ∙ perform-number l file room))))
 
 -- a state, with the outcome that `played` has
 module _ (l file : List ℕ) (room : ℕ) {m : List ℕ} (n : length l ≡ whole) (h : Holds m (played (view l) file room .chip) (spare l)) where

@@ -1,21 +1,33 @@
 -- A script file played on lent bytes: what is answered, what is left of the buffer, and what it means by name. What is left of the
--- state is said by `Left` (crate `state`) of the chip that crate `play`'s definition gives. Demand 3, and document 01, "Scripts".
+-- state is said by `Left` (crate `state`) of the chip that crate `play`'s definition gives. Document 01, "Scripts". Demand 3
+-- after each step is specs/Demand3.
 use Prim.Native.Nat.{ℕ}
 use mathlib.Core.Path.{_≡_}
 use mathlib.Core.Bool.{cond}
 use mathlib.Core.List.{List}
 use lib.ListN.{length}
 use Rattle.commands.specs.Translation.{translated, leftBy}
-use Rattle.play.specs.Played.{played, ByName}
+use Rattle.lists.specs.Numbers.{Returned, returned}
+use Rattle.play.specs.Played.{played, ByName, ofOutcome, playTable}
 use Rattle.play.specs.declared.Outcome.{Outcome}
 use Rattle.state.specs.Layout.{whole, view}
 use Rattle.state.specs.Accesses.{isState}
+use Rattle.state.specs.Numbers.{noState}
 use Rattle.perform.specs.declared.Performed.{Performed}
 use Rattle.perform.specs.declared.Performed.the-variants.{Met, Length}
 
 -- the answer: what became of the script, or that the bytes are no state
 abbrev pub performAnswer : List ℕ → List ℕ → ℕ → Performed
 performAnswer l file room = cond (isState l) (Met (played (view l) file room .outcome)) Length
+
+-- its number and value: those of what became of the script, or that the bytes are no state
+abbrev pub ofPerformed : Performed → Returned
+ofPerformed (Met o) = ofOutcome o
+ofPerformed Length = returned noState 0
+
+-- the table of numbers for a script played on lent bytes: that of the script played on the chip that they hold
+abbrev pub performTable : List ℕ → List ℕ → ℕ → Returned
+performTable l file room = cond (isState l) (playTable (view l) file room) (returned noState 0)
 
 -- the buffer: the commands of an accepted file stand in it, and bytes that are no state leave it alone
 abbrev pub bufferLeft : List ℕ → List ℕ → List ℕ → List ℕ

@@ -1,11 +1,12 @@
 // A script file played on lent bytes: translated into a lent buffer, and its commands run in place. The text is
-// that of crate `play`, whose definition it meets on the chip that the bytes hold; demand 3 is said of it too.
+// that of crate `play`, whose definition it meets on the chip that the bytes hold. Demand 3 is said of the whole script by the
+// contract, and after each step in specs/Demand3.
 ghost use mathlib.Core.Path.{_≡_};
 ghost use lib.ListN.{length};
 ghost use Rattle.play.specs.Played.{played};
 ghost use Rattle.state.specs.Layout.{view, spare};
 ghost use Rattle.state.specs.Accesses.{Left};
-ghost use Rattle.perform.specs.Perform.{performAnswer, bufferLeft, ByNameIn};
+ghost use Rattle.perform.specs.Perform.{performAnswer, bufferLeft, ByNameIn, ofPerformed, performTable};
 use commands::Translated;
 use commands::translate;
 use drive::Driven;
@@ -27,6 +28,7 @@ pub fn perform(state: &mut [u8], file: &[u8], buffer: &mut [u8]) -> Performed
     ensures { λ _. ⌜ Left (now (state .entry)) (played (view (now (state .entry))) (now (file .entry)) (length (now (buffer .entry))) .chip) (spare (now (state .entry))) (now (state .exit)) ⌝ }
     ensures { λ r. ⌜ ByNameIn (now (state .entry)) (now (file .entry)) (length (now (buffer .entry))) (now (state .exit)) r ⌝ }
     ensures { λ _. ⌜ now (buffer .exit) ≡ bufferLeft (now (state .entry)) (now (file .entry)) (now (buffer .entry)) ⌝ }
+    ensures { λ r. ⌜ ofPerformed r ≡ performTable (now (state .entry)) (now (file .entry)) (length (now (buffer .entry))) ⌝ }
 {
     if state.len() != STATE {
         return Performed::Length;

@@ -3,12 +3,10 @@
 -- are open, which every state reached from a reset with CFG1 = 1 has.
 use Prim.Native.Nat.{ℕ, zero, suc, _+_, _≤_}
 use native.Mathlib.Omega.{arith}
-use mathlib.Core.Bool.{Bool, true, false}
+use mathlib.Core.Bool.{true}
 use mathlib.Core.Path.{_≡_, refl, _∙_, ap, sym}
-use mathlib.Core.List.{List, [], _∷_, _++_, append-assoc, append-nil}
-use lib.Dec.{eqb}
+use mathlib.Core.List.{List, [], _∷_, _++_, append-nil}
 use lib.ListN.{length}
-use borrow.Author.Tests.{eqb-true, eqb-false}
 use Rattle.chip.specs.State.{Named, named, join}
 use Rattle.chip.specs.Names.{received, portsOpen}
 use Rattle.chip.specs.Palette.{coloured}
@@ -20,12 +18,12 @@ use Rattle.steps.specs.Step.{legal}
 use Rattle.steps.specs.declared.Step.{Step}
 use Rattle.steps.specs.declared.Step.the-variants.{Set, Field, Colour}
 use Rattle.script.specs.File.{checked}
-use Rattle.script.specs.Reader.{nextOf}
 use Rattle.script.proofs.Reading.{accepted-handed}
 use Rattle.script.specs.declared.Checked.the-variants.{Accepted}
 use Rattle.commands.specs.Command.{bytesOfAll}
 use Rattle.commands.specs.Expansion.{commandsOf}
-use Rattle.commands.specs.Translation.{handed, stepsTo, commandsTo, begins}
+use Rattle.commands.specs.Translation.{stepsTo, commandsTo, begins}
+use Rattle.commands.proofs.Counted.{steps-split}
 use Rattle.commands.proofs.Expanding.{commands-append}
 use Rattle.commands.specs.declared.Command.{Command}
 use Rattle.run.specs.Run.{ran, runFrom, ranTo}
@@ -77,20 +75,6 @@ steps-legal f m acc zero room = tt
 steps-legal f m acc (suc n) room =
     let h = accepted-handed f m acc n (omega arith) in
     all-legal-append (stepsTo f n) _ (steps-legal f m acc n (omega arith)) (rw (h .answer) (h .lawful, tt))
-
--- the first n steps are the beginning of the first m
-steps-split : (f : List ℕ) (m n : ℕ) → n ≤ m → (rest : List Step) × (stepsTo f m ≡ stepsTo f n ++ rest)
-unfolding stepsTo
-steps-split f zero n room = let z : n ≡ 0 = omega arith in ([], rw z refl)
-steps-split f (suc m) n room = go (eqb n (suc m)) refl (steps-split f m n)
-  where
-    go : (z : Bool) → eqb n (suc m) ≡ z → (n ≤ m → (rest : List Step) × (stepsTo f m ≡ stepsTo f n ++ rest))
-        → (rest : List Step) × (stepsTo f m ++ handed (nextOf f m) ≡ stepsTo f n ++ rest)
-    go true e before = ([], rw (eqb-true n (suc m) e) (sym (append-nil _)))
-    go false e before =
-        let ne : n ≡ suc m → ⊥ = eqb-false n (suc m) e in
-        let (rest, split) = before (omega arith) in
-        (rest ++ handed (nextOf f m), ap (λ (l : List Step). l ++ handed (nextOf f m)) split ∙ append-assoc (stepsTo f n) rest _)
 
 -- ---- the run
 length-knowns : (cs : List Command) → length (knowns cs) ≡ length cs

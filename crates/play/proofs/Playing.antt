@@ -1,23 +1,28 @@
 -- The entry: the bytes that are run are those of the translation, and what the run gives means by name what `ByName` says.
-use Prim.Native.Nat.{ℕ, zero, suc, _+_, _*_, _≤_, _<_}
+use Prim.Native.Nat.{ℕ, _+_, _*_, _≤_, _<_}
 use native.Mathlib.Omega.{arith}
-use mathlib.Core.Bool.{true, false}
+use mathlib.Core.Bool.{Bool, true, false, cond}
 use mathlib.Core.Path.{_≡_, refl, _∙_, ap, sym}
 use mathlib.Core.List.{List}
-use lib.ListN.{length, take, drop, length-append}
+use lib.Dec.{ltb}
+use lib.ListN.{length, take, drop}
 use lib.Seq.{take-at}
+use Rattle.lists.specs.Numbers.{returned}
 use Rattle.lists.proofs.Put.{length-put}
 use Rattle.chip.specs.State.{named}
 use Rattle.chip.specs.Names.{portsOpen}
 use Rattle.chip.specs.declared.Chip.{Chip}
 use Rattle.script.specs.File.{stepCount, checked}
 use Rattle.script.proofs.Counting.{accepted-few}
-use Rattle.script.proofs.Reading.{accepted-handed}
-use Rattle.script.specs.declared.Checked.the-variants.{Accepted}
+use Rattle.script.proofs.Checking.{Legal, answer-says, accepted-table, refused-table}
+use Rattle.script.specs.declared.Checked.{Checked}
+use Rattle.script.specs.declared.Checked.the-variants.{Accepted, Refused as NotAccepted}
 use Rattle.script.specs.declared.Refusal.{Refusal}
+use Rattle.script.specs.declared.Refusal.the-variants.{Room}
 use Rattle.commands.specs.Command.{bytesOfAll}
 use Rattle.commands.specs.Translation.{stepsTo, commandsTo, begins, translated, leftBy}
 use Rattle.commands.proofs.Codec.{length-bytes}
+use Rattle.commands.proofs.Counted.{steps-counted}
 use Rattle.commands.proofs.Expanding.{begins-most}
 use Rattle.commands.proofs.Translating.{translated-says}
 use Rattle.commands.specs.declared.Translated.the-variants.{Commands, Refused}
@@ -27,7 +32,7 @@ use Rattle.run.specs.declared.Ran.{Ran}
 use Rattle.run.specs.declared.Ending.the-variants.{Ended, Stopped}
 use Rattle.run.specs.declared.Reason.the-variants.{Closed}
 use Rattle.play.specs.ByName.{appliedAll}
-use Rattle.play.specs.Played.{performed, played, ByName}
+use Rattle.play.specs.Played.{performed, played, ByName, ofOutcome, playTable}
 use Rattle.play.specs.declared.Outcome.the-variants.{NotPlayed, Played}
 use Rattle.play.specs.declared.Performance.{Performance}
 use Rattle.play.proofs.Demand3.{steps-legal, whole-run}
@@ -72,13 +77,6 @@ pub played-refused : (c : Chip) (f : List ℕ) (room : ℕ) (why : Refusal) → 
 unfolding played
 played-refused c f room why is = rw is refl
 
-some-step : (f : List ℕ) (m : ℕ) → checked f ≡ Accepted m → (n : ℕ) → 0 < n → n ≤ m → 0 < length (stepsTo f n)
-unfolding stepsTo
-some-step f m acc zero some room = absurd (omega arith)
-some-step f m acc (suc n) some room =
-    let h = accepted-handed f m acc n (omega arith) in
-    rw (h .answer) (simp length-append (omega arith))
-
 same-run : (c : Chip) (f : List ℕ) (k m : ℕ) → stepCount f ≡ m → k ≡ begins f m
     → performed (ran c (bytesOfAll (commandsTo f (stepCount f))) k) ≡ performed (ran c (bytesOfAll (commandsTo f m)) (begins f m))
 same-run c f k m e h = rw (e, h) refl
@@ -106,7 +104,7 @@ module _ (c : Chip) (f : List ℕ) (room : ℕ) where
       let e : ran c (bytesOfAll (commandsTo f (t .steps))) (begins f (t .steps)) ≡ ranTo c 0 (Stopped 0 Closed) =
       run-commands c (commandsTo f (t .steps)) (begins f (t .steps))
       ∙ steps-stop c shut (stepsTo f (t .steps)) (steps-legal f (t .steps) (t .accepted) (t .steps) (omega arith))
-      (some-step f (t .steps) (t .accepted) (t .steps) some (omega arith)) in
+      (omega (arith, steps-counted f (t .steps) (t .accepted) (t .steps) (omega arith))) in
       let same : played c f room ≡ performed (ran c (bytesOfAll (commandsTo f (t .steps))) (begins f (t .steps))) =
       commands-played k is ∙ same-run c f k (t .steps) (t .counted) (t .commands) in
       (ap (λ (p : Performance). p .outcome) same ∙ ap (λ (r : Ran). performed r .outcome) e, ap (λ (p : Performance). p .chip) same ∙ ap (λ (r : Ran). r .chip) e)
@@ -119,3 +117,33 @@ module _ (c : Chip) (f : List ℕ) (room : ℕ) where
 
   pub by-name : ByName c f room (played c f room)
   by-name = record { refused = refused; answers = answers; closed = closed }
+
+  -- ---- number and value are those of the table
+  pub played-number : ofOutcome (played c f room .outcome) ≡ playTable c f room
+  unfolding translated
+  played-number = go (checked f) refl
+    where
+      opened : (k : ℕ) → translated f room ≡ Commands k → (z : Bool) → portsOpen (named c) ≡ z
+          → ofOutcome (played c f room .outcome) ≡ cond z (returned 0 0) (returned 2 0)
+      opened k is true e = ap ofOutcome (answers k is e .0)
+      opened k is false e = ap ofOutcome (closed k is e .0)
+
+      roomy : (m : ℕ) → checked f ≡ Accepted m → (z : Bool) → ltb room (32 * m) ≡ z
+          → ofOutcome (played c f room .outcome) ≡ cond z (returned 9 0) (cond (portsOpen (named c)) (returned 0 0) (returned 2 0))
+      roomy m acc true e = ap ofOutcome (refused Room (rw (acc, e) refl) .0)
+      roomy m acc false e = opened (begins f m) (rw (acc, e) refl) (portsOpen (named c)) refl
+
+      go : (r : Checked) → checked f ≡ r → ofOutcome (played c f room .outcome) ≡ playTable c f room
+      go (Accepted m) acc =
+          let l : Legal f m = answer-says f acc in
+          roomy m acc (ltb room (32 * m)) refl
+          ∙ ap (λ (n : ℕ). cond (ltb room (32 * n)) (returned 9 0) (cond (portsOpen (named c)) (returned 0 0) (returned 2 0))) (sym (l .count))
+          ∙ sym (accepted-table f m acc _)
+      go (NotAccepted why) acc = ap ofOutcome (refused why (rw acc refl) .0) ∙ sym (refused-table f why acc _)
+
+-- what the contract of `play` says, from the one equation and the buffer
+pub play-answered : (c : Chip) (f o : List ℕ) {r : Performance} {o′ : List ℕ} → r ≡ played c f (length o) → o′ ≡ leftBy (translated f (length o)) f o
+    → (r ≡ played c f (length o))
+    × (ByName c f (length o) r × ((o′ ≡ leftBy (translated f (length o)) f o) × (ofOutcome (r .outcome) ≡ playTable c f (length o))))
+play-answered c f o e left =
+    (e, (rw e (by-name c f (length o)), (left, ap (λ (p : Performance). ofOutcome (p .outcome)) e ∙ played-number c f (length o))))

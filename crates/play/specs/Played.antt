@@ -1,15 +1,16 @@
 -- The entry of demand 3: a file is translated into a lent buffer and its commands are run whole. What comes back, for every chip,
 -- file and buffer, and then what that means by name.
-use Prim.Native.Nat.{ℕ}
+use Prim.Native.Nat.{ℕ, _*_}
 use mathlib.Core.Path.{_≡_}
-use mathlib.Core.Bool.{true, false}
+use mathlib.Core.Bool.{true, false, cond}
 use mathlib.Core.List.{List}
+use lib.Dec.{ltb}
 use Rattle.chip.specs.State.{named}
 use Rattle.chip.specs.Names.{portsOpen}
 use Rattle.chip.specs.declared.Chip.{Chip}
 use Rattle.script.specs.File.{stepCount}
-use Rattle.lists.specs.Numbers.{Returned}
-use Rattle.script.specs.Numbers.{ofRefusal}
+use Rattle.lists.specs.Numbers.{Returned, returned}
+use Rattle.script.specs.Numbers.{ofRefusal, checksTable}
 use Rattle.script.specs.declared.Refusal.{Refusal}
 use Rattle.commands.specs.Command.{bytesOfAll}
 use Rattle.commands.specs.Translation.{stepsTo, commandsTo, translated}
@@ -48,3 +49,8 @@ pub record ByName (c : Chip) (file : List ℕ) (room : ℕ) (p : Performance) : 
 abbrev pub ofOutcome : Outcome → Returned
 ofOutcome (NotPlayed why) = ofRefusal why
 ofOutcome (Played count ending) = ofEnding ending
+
+-- the table of numbers for a script played, in its order: 8, 6, 7 or 11, 9, then 2 at place 0 while the ports are closed; else 0
+abbrev pub playTable : Chip → List ℕ → ℕ → Returned
+playTable c file room =
+    checksTable file (cond (ltb room (32 * stepCount file)) (returned 9 0) (cond (portsOpen (named c)) (returned 0 0) (returned 2 0)))

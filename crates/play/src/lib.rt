@@ -3,7 +3,7 @@
 ghost use mathlib.Core.Path.{_≡_};
 ghost use lib.ListN.{length};
 ghost use Rattle.commands.specs.Translation.{translated, leftBy};
-ghost use Rattle.play.specs.Played.{played, ByName};
+ghost use Rattle.play.specs.Played.{played, ByName, ofOutcome, playTable};
 use chip::Chip;
 use commands::Translated;
 use commands::translate;
@@ -28,6 +28,7 @@ pub fn play(chip: Chip, file: &[u8], buffer: &mut [u8]) -> Performance
     ensures { λ r. ⌜ r ≡ played chip (now (file .entry)) (length (now (buffer .entry))) ⌝ }
     ensures { λ r. ⌜ ByName chip (now (file .entry)) (length (now (buffer .entry))) r ⌝ }
     ensures { λ _. ⌜ now (buffer .exit) ≡ leftBy (translated (now (file .entry)) (length (now (buffer .entry)))) (now (file .entry)) (now (buffer .entry)) ⌝ }
+    ensures { λ r. ⌜ ofOutcome (r .outcome) ≡ playTable chip (now (file .entry)) (length (now (buffer .entry))) ⌝ }
 {
     match translate(file, buffer) {
         Translated::Refused(why) => Performance {

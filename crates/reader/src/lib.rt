@@ -1,9 +1,11 @@
 // The reader that stands over the caller's script bytes: a thin struct of the slice and the position
 // (document 01, Scripts; Forms we want to see). Each function takes the struct apart, or makes it, around
 // `next_at` of the crate script, and is proved by a walk of its code by hand; whoever calls `nth`, which has
-// plain parameters, needs none. What the reader answers is `nextOf` of that crate's specs/Reader.
+// plain parameters, needs none. What the reader answers is `nextOf` of that crate's specs/Reader, and its number
+// `nextTable` of specs/Numbers.
 ghost use mathlib.Core.Path.{_≡_};
 ghost use Rattle.script.specs.Reader.{nextOf};
+ghost use Rattle.script.specs.Numbers.{ofNext, nextTable};
 use script::Next;
 use script::next_at;
 
@@ -22,7 +24,7 @@ pub fn over<'a>(src: &'a [u8], at: usize) -> Reader<'a>
 
 // What it answers: the step, the refusal, or after the last step the end.
 pub fn ask<'a>(r: Reader<'a>) -> Next
-    ensures { λ n. ⌜ n ≡ nextOf (now (r .entry .src)) (r .entry .at) ⌝ }
+    ensures { λ n. ⌜ (n ≡ nextOf (now (r .entry .src)) (r .entry .at)) × (ofNext n ≡ nextTable (now (r .entry .src)) (r .entry .at)) ⌝ }
 {
     next_at(r.src, r.at)
 }
@@ -36,7 +38,7 @@ pub fn moved<'a>(r: Reader<'a>, at: usize) -> Reader<'a>
 
 // With plain parameters: what a reader over these bytes answers at step j.
 pub fn nth(file: &[u8], j: usize) -> Next
-    ensures { λ n. ⌜ n ≡ nextOf (now (file .entry)) j ⌝ }
+    ensures { λ n. ⌜ (n ≡ nextOf (now (file .entry)) j) × (ofNext n ≡ nextTable (now (file .entry)) j) ⌝ }
 {
     ask(over(file, j))
 }

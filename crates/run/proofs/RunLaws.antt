@@ -51,7 +51,7 @@ counts (r ∷ rs) c acc k (suc left) =
     go (Bad why) x h = omega arith
 
 -- four bytes to a command
-length-reads : (bytes : List ℕ) → length (reads bytes) ≡ length bytes / 4
+pub length-reads : (bytes : List ℕ) → length (reads bytes) ≡ length bytes / 4
 unfolding reads
 length-reads [] = refl
 length-reads (a ∷ []) = refl
@@ -71,10 +71,6 @@ count-least c bytes limit = go (eqb (length bytes % 4) 0)
         ≡ cond z (min limit (min (length bytes / 4) (carried c 0 (reads bytes)))) 0
     go true = counts (reads bytes) c 0 0 limit ∙ omega (arith, most)
     go false = refl
-
--- what the contract of `run` says, from the one equation
-pub run-answered : (c : Chip) (bytes : List ℕ) (limit : ℕ) {r : Ran} → r ≡ ran c bytes limit → (r ≡ ran c bytes limit) × (r .count ≡ least c bytes limit)
-run-answered c bytes limit e = (e, ap (λ (r : Ran). r .count) e ∙ count-least c bytes limit)
 
 -- ---- the endings: a stop's place is the count; it is the end exactly where every command was done; and a larger limit leaves a
 -- stopped run as it is

@@ -2,7 +2,7 @@
 // order, and the form of the result: an enum that says how it ended, with an inner enum for the reason.
 ghost use mathlib.Core.Path.{_≡_};
 ghost use Rattle.commands.specs.Command.{commandOf};
-ghost use Rattle.run.specs.Run.{answered, done, one, ran as ranOf, least};
+ghost use Rattle.run.specs.Run.{answered, done, one, ran as ranOf, least, verdictNumber, ofEnding, commandTable, runTable};
 use chip::Chip;
 use chip::access::Answer;
 use commands::Command;
@@ -100,6 +100,7 @@ fn carry_out(chip: Chip, acc: u8, c: Command) -> Did
 // Four bytes as a command.
 pub fn command(chip: Chip, acc: u8, a: u8, b: u8, c: u8, d: u8) -> Did
     ensures { λ r. ⌜ r ≡ one chip acc (commandOf a b c d) ⌝ }
+    ensures { λ r. ⌜ verdictNumber (r .verdict) ≡ commandTable chip (commandOf a b c d) ⌝ }
 {
     let CommandRead::Known(x) = command_of(a, b, c, d) else {
         return Did {
@@ -115,6 +116,7 @@ pub fn command(chip: Chip, acc: u8, a: u8, b: u8, c: u8, d: u8) -> Did
 pub fn run(chip: Chip, commands: &[u8], limit: usize) -> Ran
     ensures { λ r. ⌜ r ≡ ranOf chip (now (commands .entry)) limit ⌝ }
     ensures { λ r. ⌜ r .count ≡ least chip (now (commands .entry)) limit ⌝ }
+    ensures { λ r. ⌜ ofEnding (r .ending) ≡ runTable chip (now (commands .entry)) limit ⌝ }
 {
     let size = commands.len();
     let mut chip = chip;

@@ -13,8 +13,9 @@ use Rattle.lists.proofs.Tests.{of-cond}
 use Rattle.lists.specs.Numbers.{Returned, returned}
 use Rattle.steps.specs.declared.Fault.{Fault}
 use Rattle.script.specs.File.{wholeBlocks, blocks, legalAt, firstBadBlock, stepCount, firstBadStep, stepsChecked, checked}
-use Rattle.script.specs.Numbers.{ofChecked, fileTable}
+use Rattle.script.specs.Numbers.{ofRefusal, ofChecked, checksTable, fileTable}
 use Rattle.script.specs.declared.Layout.the-variants.{Blocks}
+use Rattle.script.specs.declared.Refusal.{Refusal}
 use Rattle.script.specs.declared.Refusal.the-variants.{Length, Block, Step, Room}
 use Rattle.script.specs.declared.Checked.{Checked}
 use Rattle.script.specs.declared.Checked.the-variants.{Accepted, Refused}
@@ -107,3 +108,24 @@ says-checked f (Refused Room) w = absurd w
 
 pub answer-says : (f : List ℕ) {r : Checked} → checked f ≡ r → Says f r
 answer-says f e = subst (Says f) e (checked-says f)
+
+-- ---- the table of whatever begins with the check: past an accepted file what comes after, and else the refusal's number and
+-- value
+pub accepted-table : (f : List ℕ) (m : ℕ) → checked f ≡ Accepted m → (x : Returned) → checksTable f x ≡ x
+accepted-table f m acc x =
+    let l : Legal f m = answer-says f acc in
+    let b : ltb (firstBadBlock f) (blocks f) ≡ false = le-ltb (firstBadBlock f) (blocks f) (omega (arith, l .blocks-legal)) in
+    let s : ltb (firstBadStep Blocks f (stepCount f)) (stepCount f) ≡ false =
+    ap (λ (n : ℕ). ltb (firstBadStep Blocks f n) n) (l .count) ∙ le-ltb (firstBadStep Blocks f m) m (omega (arith, l .steps-legal)) in
+    rw (l .whole, b, s)
+
+pub refused-table : (f : List ℕ) (why : Refusal) → checked f ≡ Refused why → (x : Returned) → checksTable f x ≡ ofRefusal why
+refused-table f why e x = go why (answer-says f e)
+  where
+    go : (r : Refusal) → Says f (Refused r) → checksTable f x ≡ ofRefusal r
+    go Length w = rw w
+    go (Block k) b = rw (b .whole, b .first, lt-ltb _ _ (b .there))
+    go (Step j why) b =
+        let q : ltb (firstBadBlock f) (blocks f) ≡ false = le-ltb (firstBadBlock f) (blocks f) (omega (arith, b .blocks-legal)) in
+        rw (b .whole, q, b .bad .first, lt-ltb _ _ (b .bad .there), b .bad .read)
+    go Room w = absurd w

@@ -19,7 +19,7 @@ use Rattle.steps.specs.declared.StepRead.{StepRead}
 use Rattle.steps.specs.declared.StepRead.the-variants.{Good, Refused as NoStep}
 use Rattle.steps.proofs.Codec.{written-read}
 use Rattle.script.specs.File.{stepCount, stepPlace, stepAt, checked}
-use Rattle.script.specs.Numbers.{ofNext}
+use Rattle.script.specs.Numbers.{ofNext, nextTable}
 use Rattle.script.specs.Reader.{asNext, nextOf, after, stood, turned}
 use Rattle.script.specs.declared.Layout.the-variants.{Blocks}
 use Rattle.script.specs.declared.Refusal.the-variants.{Step as NoSuch}
@@ -51,7 +51,7 @@ module _ (f : List ℕ) (j : ℕ) where
   turn-past h = rw (next-past h)
 
 -- document 01's number and value: those of the step that is read there, before the end
-pub next-number : (f : List ℕ) (j : ℕ) → ofNext (nextOf f j) ≡ cond (ltb j (stepCount f)) (ofStepRead j (stepAt Blocks f j)) (returned 0 0)
+pub next-number : (f : List ℕ) (j : ℕ) → ofNext (nextOf f j) ≡ nextTable f j
 unfolding nextOf
 next-number f j =
     of-cond ofNext (ltb j (stepCount f)) (asNext (stepAt Blocks f j) j) End
@@ -60,6 +60,10 @@ next-number f j =
     as-next : (r : StepRead) → ofNext (asNext r j) ≡ ofStepRead j r
     as-next (Good s) = refl
     as-next (NoStep why) = refl
+
+-- what the contracts of the reader say, from the one equation
+pub next-answered : (f : List ℕ) (j : ℕ) {x : Next} → x ≡ nextOf f j → (x ≡ nextOf f j) × (ofNext x ≡ nextTable f j)
+next-answered f j e = (e, ap ofNext e ∙ next-number f j)
 
 -- ---- what is handed out at step j: a step that passes, whose six bytes stand at its place
 pub record Handed (f : List ℕ) (j : ℕ) : Type 0 where

@@ -1,20 +1,20 @@
 -- Laws of `stepsChecked`, for the steps of a file and for a list of steps: each answer is given exactly when,
 -- and the number and value that go with it.
-use mathlib.Core.Path.{_≡_, refl}
+use mathlib.Core.Path.{_≡_, refl, ap, _∙_}
 use mathlib.Core.List.{List}
 use mathlib.Core.Bool.{Bool, true, false, cond, true≢false}
 use Prim.Native.Nat.{ℕ, _<_}
 use native.Mathlib.Omega.{arith}
 use borrow.Author.Tests.{lt-ltb, le-ltb, ltb-true, ltb-false}
 use lib.Dec.{ltb}
-use Rattle.lists.specs.Numbers.{Returned}
+use Rattle.lists.specs.Numbers.{Returned, returned}
 use Rattle.lists.proofs.Scan.{first-le, first-fails}
 use Rattle.steps.specs.Step.{isGood, ofStepRead}
 use Rattle.steps.specs.declared.Fault.{Fault}
 use Rattle.steps.specs.declared.StepRead.{StepRead}
 use Rattle.steps.specs.declared.StepRead.the-variants.{Good, Refused as NoStep}
 use Rattle.script.specs.File.{stepAt, firstBadStep, orRefused, stepsChecked}
-use Rattle.script.specs.Numbers.{ofRefusal, stepsTable}
+use Rattle.script.specs.Numbers.{ofRefusal, ofChecked, stepsTable}
 use Rattle.script.specs.declared.Layout.{Layout}
 use Rattle.script.specs.declared.Refusal.{Refusal}
 use Rattle.script.specs.declared.Refusal.the-variants.{Length, Block, Step, Room}
@@ -81,3 +81,8 @@ steps-number g of layout f m = go (ltb (firstBadStep layout f m) m) refl
     go true e =
         bad (firstBadStep layout f m) (stepAt layout f (firstBadStep layout f m)) (first-fails (λ j. isGood (stepAt layout f j)) m (ltb-true _ _ e))
     go false e = refl
+
+-- what the contract of `check_steps` says, from the one equation
+pub steps-answered : (layout : Layout) (f : List ℕ) (m : ℕ) {r : Checked} → r ≡ stepsChecked layout f m
+    → (r ≡ stepsChecked layout f m) × (ofChecked r ≡ stepsTable layout f m (returned 0 m))
+steps-answered layout f m e = (e, ap ofChecked e ∙ steps-number ofChecked (λ r. refl) layout f m)

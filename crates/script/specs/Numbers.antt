@@ -1,5 +1,6 @@
 -- Document 01's numbers for each answer, with the value returned beside it (Numbers returned): one
--- definition to an answer, and the table of numbers for a checked file, which `checked` is proved to meet.
+-- definition to an answer, and the tables of numbers for the reader, for steps and for a checked file, which the answers are
+-- proved to meet. The number of one step is the crate steps'.
 use Prim.Native.Nat.{ℕ}
 use mathlib.Core.List.{List}
 use mathlib.Core.Bool.{cond, not}
@@ -35,14 +36,21 @@ ofNext (Found s) = returned 0 0
 ofNext (NoStep r) = ofRefusal r
 ofNext End = returned 0 0
 
+-- the table for the reader at step j: of what is read there, before the end
+abbrev pub nextTable : List ℕ → ℕ → Returned
+nextTable f j = cond (ltb j (stepCount f)) (ofStepRead j (stepAt Blocks f j)) (returned 0 0)
+
 -- the table for m steps: the first that does not pass reports its own number; else what comes after
 abbrev pub stepsTable : Layout → List ℕ → ℕ → Returned → Returned
 stepsTable layout f m rest =
     cond (ltb (firstBadStep layout f m) m) (ofStepRead (firstBadStep layout f m) (stepAt layout f (firstBadStep layout f m))) rest
 
--- the table for a file, in its order
-abbrev pub fileTable : List ℕ → Returned
-fileTable f =
+-- the table for whatever begins with the check of a file, in its order; and for the check alone
+abbrev pub checksTable : List ℕ → Returned → Returned
+checksTable f rest =
     cond (not (wholeBlocks f)) (returned 8 0)
     (cond (ltb (firstBadBlock f) (blocks f)) (returned 6 (firstBadBlock f))
-    (stepsTable Blocks f (stepCount f) (returned 0 (stepCount f))))
+    (stepsTable Blocks f (stepCount f) rest))
+
+abbrev pub fileTable : List ℕ → Returned
+fileTable f = checksTable f (returned 0 (stepCount f))

@@ -4,11 +4,13 @@
 // a struct over the bytes is the crate reader, and making a file is the crate writer.
 ghost use mathlib.Core.Path.{_≡_};
 ghost use Prim.Native.Nat.{_+_, _*_, _%_, _/_, _≤_};
-ghost use lib.ListN.{length};
+ghost use lib.ListN.{length, take, drop};
+ghost use Rattle.lists.specs.Numbers.{returned};
+ghost use Rattle.steps.specs.Step.{readNumber, bytesTable};
 ghost use Rattle.script.specs.Block.{wordSum, checkWord, lastMark, countLegal, unusedZero, contentLegal, blockLegal};
 ghost use Rattle.script.specs.File.{firstBadBlock, stepCount, stepPlace, stepAt, firstBadStep, stepsChecked, checked};
-ghost use Rattle.script.specs.Reader.{nextOf, turned};
-ghost use Rattle.script.specs.Numbers.{ofRefusal, ofChecked, fileTable};
+ghost use Rattle.script.specs.Reader.{asNext, nextOf, turned};
+ghost use Rattle.script.specs.Numbers.{ofRefusal, ofChecked, ofNext, nextTable, stepsTable, fileTable};
 use lists::is_whole;
 use lists::wide;
 use steps::Fault;
@@ -198,6 +200,7 @@ fn ahead(layout: Layout, j: usize) -> usize
 // The step at a place, or the refusal.
 pub fn step_at(list: &[u8], layout: Layout, j: usize) -> StepRead
     ensures { λ r. ⌜ r ≡ stepAt layout (now (list .entry)) j ⌝ }
+    ensures { λ r. ⌜ readNumber r ≡ bytesTable (take 6 (drop (stepPlace layout j) (now (list .entry)))) ⌝ }
 {
     let skip = ahead(layout, j);
     if list.len() < skip {
@@ -226,6 +229,7 @@ fn first_bad_step(list: &[u8], layout: Layout, count: usize) -> usize
 // So many steps checked: why the first that does not pass is refused, or that all of them pass.
 pub fn check_steps(list: &[u8], layout: Layout, count: usize) -> Checked
     ensures { λ r. ⌜ r ≡ stepsChecked layout (now (list .entry)) count ⌝ }
+    ensures { λ r. ⌜ ofChecked r ≡ stepsTable layout (now (list .entry)) count (returned 0 count) ⌝ }
 {
     let j = first_bad_step(list, layout, count);
     if count <= j {
@@ -254,12 +258,23 @@ pub fn check_file(file: &[u8]) -> Checked
 
 // The reader's work: what it answers at step `at`. A refusal goes straight out.
 pub fn next_at(file: &[u8], at: usize) -> Next
-    ensures { λ r. ⌜ r ≡ nextOf (now (file .entry)) at ⌝ }
+    ensures { λ r. ⌜ (r ≡ nextOf (now (file .entry)) at) × (ofNext r ≡ nextTable (now (file .entry)) at) ⌝ }
 {
     if step_count(file) <= at {
         return Next::End;
     }
-    match step_at(file, Layout::Blocks, at) {
+    let read = step_at(file, Layout::Blocks, at);
+    let StepRead::Good(step) = read else {
+        return as_next(read, at);
+    };
+    Next::Found(step)
+}
+
+// What was read at step `at`, as the reader's answer.
+fn as_next(read: StepRead, at: usize) -> Next
+    ensures { λ r. ⌜ r ≡ asNext read at ⌝ }
+{
+    match read {
         StepRead::Good(step) => Next::Found(step),
         StepRead::Refused(why) => Next::Refused(Refusal::Step(at, why)),
     }
@@ -276,6 +291,7 @@ impl Position {
     // The answer here, and the position after it: past a step that was handed out, and else the same.
     pub fn turn(self, file: &[u8]) -> Turn
         ensures { λ r. ⌜ r ≡ turned (now (file .entry)) (self .at) ⌝ }
+        ensures { λ r. ⌜ ofNext (r .next) ≡ nextTable (now (file .entry)) (self .at) ⌝ }
     {
         let at = self.at;
         let next = next_at(file, at);

@@ -3,12 +3,17 @@ use Prim.Native.Nat.{ℕ, zero, suc, _+_, _*_, _≤_, _<_}
 use native.Mathlib.Omega.{arith}
 use native.Mathlib.Numerals.{add-one}
 use mathlib.Core.Bool.{Bool, true, false, cond}
-use mathlib.Core.Path.{_≡_, refl, _∙_}
+use mathlib.Core.Path.{_≡_, refl, sym, ap, _∙_}
 use mathlib.Core.List.{List, [], _++_}
 use lib.Dec.{ltb}
 use lib.ListN.{length, take, length-append}
 use borrow.Author.Tests.{lt-ltb, le-ltb, ltb-false}
+use Rattle.lists.specs.Numbers.{returned}
+use Rattle.lists.proofs.Tests.{of-cond}
 use Rattle.text.specs.Adding.{Added}
+use Rattle.text.proofs.Adding.{added-append}
+use Rattle.steps.specs.declared.Step.{Step}
+use Rattle.spelling.specs.Written.{stepLine}
 use Rattle.script.specs.File.{stepCount, checked}
 use Rattle.script.specs.Reader.{nextOf}
 use Rattle.script.specs.declared.Checked.{Checked}
@@ -17,10 +22,11 @@ use Rattle.script.specs.declared.Refusal.{Refusal}
 use Rattle.script.specs.declared.Refusal.the-variants.{Length, Room}
 use Rattle.script.specs.declared.Next.{Next}
 use Rattle.script.specs.declared.Next.the-variants.{Found, Refused as NoStep, End}
-use Rattle.script.proofs.Checking.{answer-says, check-length}
+use Rattle.script.proofs.Checking.{answer-says, check-length, accepted-table, refused-table}
 use Rattle.script.proofs.Counting.{accepted-few, long-refused, start-decides}
 use Rattle.spelling.proofs.Lengths.{line-most}
-use Rattle.showing.specs.Show.{lineOfNext, textTo, textOf, shownBy, shown, leftBy}
+use Rattle.showing.specs.Show.{lineOfNext, textTo, textOf, shownBy, shown, leftBy, ofShown, shownTable, LinesPut}
+use Rattle.showing.specs.declared.Shown.{Shown}
 use Rattle.showing.specs.declared.Shown.the-variants.{Text, Refused}
 
 pub next-most : (x : Next) → length (lineOfNext x) ≤ 20
@@ -43,6 +49,15 @@ text-start f = refl
 pub text-next : (f : List ℕ) (n : ℕ) → textTo f (n + 1) ≡ textTo f n ++ lineOfNext (nextOf f n)
 unfolding textTo
 text-next f n = rw (add-one n)
+
+-- the line of one step more
+pub text-step : (f o : List ℕ) (j : ℕ) (s : Step) {o₁ o₂ : List ℕ} {e₁ e₂ : ℕ} → nextOf f j ≡ Found s → Added o 0 (textTo f j) o₁ e₁
+    → Added o₁ e₁ (stepLine s) o₂ e₂ → e₂ ≤ length o → Added o 0 (textTo f (j + 1)) o₂ e₂
+text-step f o j s is added more room = rw (text-next f j, is) (added-append added more room)
+
+-- all of them written: they are counted
+pub lines-put : (f o : List ℕ) (m : ℕ) {o′ : List ℕ} {e : ℕ} → Added o 0 (textTo f m) o′ e → LinesPut f m o o′ (Text e)
+lines-put f o m {o′} {e} a = let n : e ≡ length (textTo f m) = omega (arith, a .next) in record { answer = ap Text n; text = a .now }
 
 -- ---- the answers
 -- 20,160 bytes are room for the text of any file
@@ -84,9 +99,25 @@ module _ (f : List ℕ) (room : ℕ) where
     unfolding shown
     shown-short h = rw (e, lt-ltb _ _ h)
 
-    pub shown-text : 20 * m ≤ room → {out o : List ℕ} {n : ℕ} → Added out 0 (textTo f m) o n → (Text n ≡ shown f room) × (o ≡ leftBy (Text n) f out)
+    pub shown-text : 20 * m ≤ room → {out o : List ℕ} {r : Shown} → LinesPut f m out o r → (r ≡ shown f room) × (o ≡ leftBy r f out)
     unfolding shown
-    shown-text h {out} {o} {n} a =
+    shown-text h {out} {o} {r} a =
         let count : stepCount f ≡ m = answer-says f e .count in
-        let next : n ≡ length (textTo f m) = omega (arith, a .next) in
-        (rw (e, le-ltb _ _ h, count, next), a .now ∙ rw count)
+        (a .answer ∙ rw (e, le-ltb _ _ h, count), a .text ∙ rw (a .answer, count))
+
+-- ---- number and value are those of the table
+shown-number : (f : List ℕ) (room : ℕ) → ofShown (shown f room) ≡ shownTable f room
+unfolding shown
+shown-number f room = go (checked f) refl
+  where
+    go : (r : Checked) → checked f ≡ r → ofShown (shownBy r f room) ≡ shownTable f room
+    go (Accepted m) acc =
+        let count : stepCount f ≡ m = answer-says f acc .count in
+        of-cond ofShown (ltb room (20 * m)) (Refused Room) (Text (length (textOf f)))
+        ∙ ap (λ (n : ℕ). cond (ltb room (20 * n)) (returned 9 0) (returned 0 (length (textOf f)))) (sym count) ∙ sym (accepted-table f m acc _)
+    go (NotAccepted why) acc = sym (refused-table f why acc _)
+
+-- what the contract of `show` says, from the answer and the output
+pub shown-answered : (f o : List ℕ) {r : Shown} {o′ : List ℕ} → r ≡ shown f (length o) → o′ ≡ leftBy r f o
+    → (r ≡ shown f (length o)) × ((o′ ≡ leftBy r f o) × (ofShown r ≡ shownTable f (length o)))
+shown-answered f o e left = (e, (left, ap ofShown e ∙ shown-number f (length o)))

@@ -3,6 +3,7 @@
 -- no byte, and bytes after the text keep their value. That composing the text gives the same file again is the crate composing's.
 use Prim.Native.Nat.{ℕ, zero, suc, _*_}
 use mathlib.Core.Bool.{cond}
+use mathlib.Core.Path.{_≡_}
 use mathlib.Core.List.{List, [], _++_}
 use lib.Dec.{ltb}
 use lib.ListN.{length}
@@ -10,7 +11,7 @@ use Rattle.lists.specs.Put.{put}
 use Rattle.lists.specs.Numbers.{Returned, returned}
 use Rattle.script.specs.File.{stepCount, checked}
 use Rattle.script.specs.Reader.{nextOf}
-use Rattle.script.specs.Numbers.{ofRefusal}
+use Rattle.script.specs.Numbers.{ofRefusal, checksTable}
 use Rattle.script.specs.declared.Checked.{Checked}
 use Rattle.script.specs.declared.Checked.the-variants.{Accepted, Refused as NotAccepted}
 use Rattle.script.specs.declared.Refusal.the-variants.{Room}
@@ -51,3 +52,18 @@ leftBy (Refused r) f out = out
 abbrev pub ofShown : Shown → Returned
 ofShown (Text n) = returned 0 n
 ofShown (Refused r) = ofRefusal r
+
+-- the table of numbers for a file shown, in its order: 8, 6, 7 or 11, 9
+abbrev pub shownTable : List ℕ → ℕ → Returned
+shownTable f room = checksTable f (cond (ltb room (20 * stepCount f)) (returned 9 0) (returned 0 (length (textOf f))))
+
+-- what is answered where the reader hands out no step, after n bytes of text: its refusal, or at the end the text so far
+abbrev pub withoutStep : Next → ℕ → Shown
+withoutStep (Found s) n = Text n
+withoutStep (NoStep r) n = Refused r
+withoutStep End n = Text n
+
+-- the lines of the first m steps stand in front of an output, and are counted. Only private contracts speak of these two
+pub record LinesPut (f : List ℕ) (m : ℕ) (before after : List ℕ) (r : Shown) : Type 0 where
+  pub answer : r ≡ Text (length (textTo f m))
+  pub text : after ≡ put before 0 (textTo f m)

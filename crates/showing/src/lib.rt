@@ -4,7 +4,9 @@ ghost use mathlib.Core.Path.{_≡_};
 ghost use Prim.Native.Nat.{_+_, _*_, _≤_};
 ghost use lib.ListN.{length};
 ghost use Rattle.text.specs.Adding.{withAddedIn, behindIn, Added};
-ghost use Rattle.showing.specs.Show.{lineOfNext, textTo, shown, leftBy};
+ghost use Rattle.script.specs.File.{checked};
+ghost use Rattle.spelling.specs.Written.{stepLine};
+ghost use Rattle.showing.specs.Show.{withoutStep, LinesPut, shown, leftBy, ofShown, shownTable};
 ghost use Rattle.showing.specs.Complaint.{front, complaint};
 use reader::nth;
 use script::Checked;
@@ -12,6 +14,7 @@ use script::Next;
 use script::Refusal;
 use script::check_file;
 use spelling::add_step;
+use steps::Step;
 use text::add;
 use text::add_place;
 use text::add_refused;
@@ -22,44 +25,55 @@ pub enum Shown {
     Refused(Refusal),
 }
 
-// The line of what the reader hands out.
-fn put_next(out: &mut [u8], at: usize, next: Next) -> usize
+// The line of a step.
+fn put_step(out: &mut [u8], at: usize, s: Step) -> usize
     requires { ⌜ at + 20 ≤ length (now out) ⌝ }
-    ensures { λ r. ⌜ Added (now (out .entry)) at (lineOfNext next) (now (out .exit)) r ⌝ }
+    ensures { λ r. ⌜ Added (now (out .entry)) at (stepLine s) (now (out .exit)) r ⌝ }
+{
+    add_step(out, at, s)
+}
+
+// What is answered where the reader hands out no step: its refusal, or at the end the text so far.
+fn without_step(next: Next, n: usize) -> Shown
+    ensures { λ r. ⌜ r ≡ withoutStep next n ⌝ }
 {
     match next {
-        Next::Found(step) => add_step(out, at, step),
-        Next::Refused(_) => at,
-        Next::End => at,
+        Next::Found(_) => Shown::Text(n),
+        Next::Refused(why) => Shown::Refused(why),
+        Next::End => Shown::Text(n),
     }
 }
 
-// The lines of the first n steps.
-fn put_lines(file: &[u8], n: usize, out: &mut [u8]) -> usize
-    requires { ⌜ 20 * n ≤ length (now out) ⌝ }
-    ensures { λ r. ⌜ Added (now (out .entry)) 0 (textTo (now (file .entry)) n) (now (out .exit)) r ⌝ }
+// The lines of the steps of an accepted file; how many bytes they have. A refusal goes straight out.
+fn put_lines(file: &[u8], m: usize, out: &mut [u8]) -> Shown
+    requires { ⌜ (checked (now file) ≡ Checked.Accepted m) × (20 * m ≤ length (now out)) ⌝ }
+    ensures { λ r. ⌜ LinesPut (now (file .entry)) m (now (out .entry)) (now (out .exit)) r ⌝ }
 {
     let mut at = 0;
     let mut j = 0;
-    while j < n {
+    while j < m {
         let next = nth(file, j);
-        at = put_next(out, at, next);
+        let Next::Found(step) = next else {
+            return without_step(next, at);
+        };
+        at = put_step(out, at, step);
         j += 1;
     }
-    at
+    Shown::Text(at)
 }
 
 // A script file as text in `out`, which wants 20 bytes a step.
 pub fn show(file: &[u8], out: &mut [u8]) -> Shown
     ensures { λ r. ⌜ r ≡ shown (now (file .entry)) (length (now (out .entry))) ⌝ }
     ensures { λ r. ⌜ now (out .exit) ≡ leftBy r (now (file .entry)) (now (out .entry)) ⌝ }
+    ensures { λ r. ⌜ ofShown r ≡ shownTable (now (file .entry)) (length (now (out .entry))) ⌝ }
 {
     match check_file(file) {
         Checked::Accepted(m) => {
             if out.len() / 20 < m {
                 return Shown::Refused(Refusal::Room);
             }
-            Shown::Text(put_lines(file, m, out))
+            put_lines(file, m, out)
         }
         Checked::Refused(r) => Shown::Refused(r),
     }

@@ -1,22 +1,22 @@
 -- Reading and writing a step undo each other: the six bytes of a step are read as that step exactly where
 -- it passes, and bytes that are read as a step are the six bytes of that step, which passes. Below: fewer
 -- than six bytes are no step.
-use mathlib.Core.Path.{_≡_, refl, ap}
+use mathlib.Core.Path.{_≡_, refl, ap, _∙_}
 use mathlib.Core.List.{List, [], _∷_}
-use mathlib.Core.Bool.{Bool, true, false, _&&_}
+use mathlib.Core.Bool.{Bool, true, false, cond, _&&_}
 use Prim.Native.Nat.{ℕ, _+_, _<_}
 use native.Mathlib.Omega.{arith}
 use borrow.Author.Tests.{eqb-true, ne-eqb}
 use lib.Dec.{eqb}
-use lib.ListN.{length, take, drop, length-take, length-drop}
-use Rattle.lists.proofs.Tests.{and-both}
-use Rattle.steps.specs.Step.{judged, bytesOf, shaped, ifShaped, stepOf, readAt}
+use lib.ListN.{length, getD, take, drop, length-take, length-drop}
+use Rattle.lists.proofs.Tests.{and-both, of-cond}
+use Rattle.steps.specs.Step.{judged, bytesOf, shaped, ifShaped, stepOf, readAt, readNumber, shapeTable, bytesTable}
 use Rattle.steps.specs.declared.Step.{Step}
 use Rattle.steps.specs.declared.Step.the-variants.{Set, Field, Colour}
 use Rattle.steps.specs.declared.Fault.the-variants.{Unallowed}
 use Rattle.steps.specs.declared.StepRead.{StepRead}
 use Rattle.steps.specs.declared.StepRead.the-variants.{Good, Refused}
-use Rattle.steps.proofs.Lawful.{Passes, good-passes}
+use Rattle.steps.proofs.Lawful.{Passes, good-passes, judged-number}
 
 -- ---- what was written is read: the step where it passes, and else its refusal
 pub read-written : (s : Step) → stepOf (bytesOf s) ≡ judged s
@@ -85,6 +85,22 @@ written-read (a ∷ b ∷ c ∷ d ∷ x ∷ f ∷ y ∷ l) s e = absurd (
     let t : Refused Unallowed ≡ Good s = rw (ne-eqb (length (a ∷ b ∷ c ∷ d ∷ x ∷ f ∷ y ∷ l)) 6 n) at e in
     let z : _≡_ {A = ℕ} 0 1 = cc in
     omega arith)
+
+-- ---- the number of what was read: 7 for bytes that are no step, else that of the step
+shaped-number : (r : StepRead) → readNumber (ifShaped r) ≡ shapeTable r
+shaped-number (Good s) = judged-number s
+shaped-number (Refused why) = refl
+
+pub read-number : (l : List ℕ) → readNumber (stepOf l) ≡ bytesTable l
+unfolding stepOf bytesTable
+read-number l =
+    of-cond readNumber (eqb (length l) 6) _ _
+    ∙ ap (λ (n : ℕ). cond (eqb (length l) 6) n 7)
+    (shaped-number (shaped (getD l 0 0) (getD l 1 0) (getD l 2 0) (getD l 3 0) (getD l 4 0) (getD l 5 0)))
+
+-- what the contracts of `of_bytes` and `read_at` say, from the one equation
+pub read-answered : (l : List ℕ) {r : StepRead} → r ≡ stepOf l → (r ≡ stepOf l) × (readNumber r ≡ bytesTable l)
+read-answered l e = (e, ap readNumber e ∙ read-number l)
 
 -- ---- fewer than six bytes are no step
 pub read-short : (l : List ℕ) (p : ℕ) → length l < p + 6 → readAt l p ≡ Refused Unallowed

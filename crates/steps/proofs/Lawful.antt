@@ -3,7 +3,7 @@
 -- numbers. A step that can do nothing: an unlisted register, a listed one by its bits, and what does not
 -- matter. What a step comes to, each answer exactly when.
 use mathlib.Core.Path.{_≡_, refl, sym, ap, _∙_}
-use mathlib.Core.Bool.{Bool, true, false, not, _&&_, _||_, and-true, and-false}
+use mathlib.Core.Bool.{Bool, true, false, cond, not, _&&_, _||_, and-true, and-false}
 use Prim.Native.Nat.{ℕ, zero, suc, _*_, _/_, _%_, _^_, _≤_, _<_}
 use native.Mathlib.Nat.{pow-succ', div-div-eq-div-mul}
 use native.Mathlib.Omega.{arith}
@@ -12,7 +12,7 @@ use lib.Dec.{ltb, eqb}
 use lib.Bits.{bitAnd, and-step, and-shr, and-zero-l}
 use Rattle.lists.specs.Bits.{bit}
 use Rattle.lists.specs.Scan.{every}
-use Rattle.lists.proofs.Tests.{and-both}
+use Rattle.lists.proofs.Tests.{and-both, of-cond}
 use Rattle.registers.specs.Attribute.{AR}
 use Rattle.registers.specs.CrtController.{CR}
 use Rattle.registers.specs.Extension.{XR}
@@ -20,7 +20,7 @@ use Rattle.registers.specs.Groups.{groupAt, isIndexed, rowOf}
 use Rattle.registers.specs.Indexes.{fits}
 use Rattle.registers.proofs.IndexLaws.{misfit-unlisted}
 use Rattle.registers.specs.declared.Row.the-variants.{Listed, Unlisted}
-use Rattle.steps.specs.Step.{names, within, legal, unwritable, idle, judged}
+use Rattle.steps.specs.Step.{names, within, legal, unwritable, idle, judged, readNumber, stepTable}
 use Rattle.steps.specs.declared.Fault.the-variants.{Unallowed, Idle}
 use Rattle.steps.specs.declared.Step.{Step}
 use Rattle.steps.specs.declared.Step.the-variants.{Set, Field, Colour}
@@ -159,6 +159,15 @@ module _ (s : Step) where
   pub passes-good : Passes s → judged s ≡ Good s
   unfolding judged
   passes-good p = rw (p .lawful, p .useful)
+
+  -- its number: 7, then 11, else 0
+  pub judged-number : readNumber (judged s) ≡ stepTable s
+  unfolding judged
+  judged-number = of-cond readNumber (legal s) _ _ ∙ ap (λ (n : ℕ). cond (legal s) n 7) (of-cond readNumber (idle s) (Refused Idle) (Good s))
+
+  -- what the contract of `judge` says, from the one equation
+  pub judge-answered : {r : StepRead} → r ≡ judged s → (r ≡ judged s) × (readNumber r ≡ stepTable s)
+  judge-answered e = (e, ap readNumber e ∙ judged-number)
 
 -- .. and a step that is found good is the step, and passes
 pub good-passes : (q s : Step) → judged q ≡ Good s → (q ≡ s) × Passes s

@@ -86,8 +86,26 @@ abbrev pub faultNumber : Fault → ℕ
 faultNumber Unallowed = 7
 faultNumber Idle = 11
 
--- the number and value for what is read as step j: that of its fault and the step number, or done, where the
--- answer is the step and no number
+-- the number of what was read: that of its fault, or done
+abbrev pub readNumber : StepRead → ℕ
+readNumber (Good s) = 0
+readNumber (Refused why) = faultNumber why
+
+-- .. and with it the value for what is read as step j: the step number, or where the answer is the step no value
 abbrev pub ofStepRead : ℕ → StepRead → Returned
 ofStepRead j (Good s) = returned 0 0
 ofStepRead j (Refused why) = returned (faultNumber why) j
+
+-- the table of numbers for a step: 7, then 11, else 0
+abbrev pub stepTable : Step → ℕ
+stepTable s = cond (legal s) (cond (idle s) 11 0) 7
+
+-- .. and for bytes: 7 where they are not six, or of none of the three kinds, else that of the step
+abbrev pub shapeTable : StepRead → ℕ
+shapeTable (Good s) = stepTable s
+shapeTable (Refused why) = 7
+
+unfoldable pub bytesTable : List ℕ → ℕ
+bytesTable l =
+    cond (eqb (length l) 6)
+    (shapeTable (shaped (getD l 0 0) (getD l 1 0) (getD l 2 0) (getD l 3 0) (getD l 4 0) (getD l 5 0))) 7

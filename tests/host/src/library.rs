@@ -24,6 +24,7 @@ mod raw {
         pub fn chips69000_translate_script(
             file: *const u8, file_length: usize, commands: *mut u8, commands_length: usize, value: *mut usize,
         ) -> u8;
+        pub fn chips69000_step_commands(file: *const u8, file_length: usize, step: usize, value: *mut usize) -> u8;
         pub fn chips69000_run(
             state: *mut u8, state_length: usize, commands: *const u8, commands_length: usize, limit: usize, count: *mut usize,
             place: *mut usize,
@@ -140,5 +141,11 @@ pub fn translate_script(file: &[u8], commands: &mut [u8]) -> (u8, usize) {
     let r = unsafe {
         raw::chips69000_translate_script(file.as_ptr(), file.len(), commands.as_mut_ptr(), commands.len(), &mut value)
     };
+    (r, value)
+}
+
+pub fn step_commands(file: &[u8], step: usize) -> (u8, usize) {
+    let mut value = usize::MAX;
+    let r = unsafe { raw::chips69000_step_commands(file.as_ptr(), file.len(), step, &mut value) };
     (r, value)
 }

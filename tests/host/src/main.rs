@@ -465,7 +465,7 @@ impl Tally {
     }
 }
 
-/// Lists of steps written as files; those files, whole and damaged, checked and translated.
+/// Lists of steps written as files; those files, whole and damaged, checked and translated, and where steps' commands begin.
 fn scripts(rows: &Rows, r: &mut Random, rounds: usize) -> [Tally; 3] {
     let mut tallies: [Tally; 3] = Default::default();
     for round in 0..rounds {
@@ -511,15 +511,20 @@ fn scripts(rows: &Rows, r: &mut Random, rounds: usize) -> [Tally; 3] {
         expect(&format!("{input}, translated"), translated, script::translate(rows, &file, &mut kept));
         expect_bytes(&format!("{input}, translated"), &commands, &kept);
         tallies[2].add(translated.0);
+        for step in [0, 1, r.below(count + 2) as usize, count as usize, usize::MAX] {
+            expect(&format!("{input}, before step {step}"), library::step_commands(&file, step), script::begins(rows, &file, step));
+        }
     }
     tallies
 }
 
 /// A file played on a state: what is left is what the commands do; registers, AR among them, and colours are what the steps say by
-/// name; and there is a picture if there was one. A refusal changes nothing, and closed ports refuse the first command. The number.
+/// name, after some of the steps too; and there is a picture if there was one. A refusal changes nothing, and closed ports refuse the
+/// first command. The number.
 fn played(rows: &Rows, input: &str, s: &mut [u8], file: &[u8], commands: &mut [u8]) -> u8 {
     let mut expected = Vec::new();
     let mut kept = commands.to_vec();
+    let mut part = s.to_vec();
     let before = Chip::from_bytes(s);
     let index = library::port_read(s, 0x3C0);
     let got = library::play(s, file, commands);
@@ -539,8 +544,14 @@ fn played(rows: &Rows, input: &str, s: &mut [u8], file: &[u8], commands: &mut [u
         expect(&format!("{input}, refused"), Chip::from_bytes(s) == before, true);
         return got.0;
     }
+    let steps = script::steps(rows, file).unwrap();
+    let some = usize::from(file[510]) % (steps.len() + 1);
+    let limit = library::step_commands(file, some).1;
     let mut said = before;
-    script::steps(rows, file).unwrap().iter().for_each(|step| said.apply(rows, step));
+    steps[..some].iter().for_each(|step| said.apply(rows, step));
+    expect(&format!("{input}, {some} steps"), library::run(&mut part, &commands[..4 * translated.1], limit), (0, limit, 0));
+    expect_bytes(&format!("{input}, {some} steps by name"), &Chip::from_bytes(&part).named(), &said.named());
+    steps[some..].iter().for_each(|step| said.apply(rows, step));
     expect(&format!("{input}, carried out"), got, (0, translated.1, 0));
     expect_bytes(&format!("{input}, by name"), &Chip::from_bytes(s).named(), &said.named());
     expect(&format!("{input}, bit 5 of 3C0h"), library::port_read(s, 0x3C0).1 & 0x20, index.1 & 0x20);

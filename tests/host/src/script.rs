@@ -1,5 +1,6 @@
-//! Scripts, written from documents 01 and 02 (P1, P2, P5): a file checked, a list of steps written as a file, a file translated into commands.
-//! Each answers a number and a value. The commands of group 8 are those of docs/DECISIONS.md, part 6.
+//! Scripts, written from documents 01 and 02 (P1, P2, P5): a file checked, a list of steps written as a file, a file translated
+//! into commands, and where a step's commands begin. Each answers a number and a value. The commands of group 8 are those of
+//! docs/DECISIONS.md, part 6.
 
 use crate::model::Rows;
 
@@ -164,4 +165,9 @@ pub fn translate(rows: &Rows, file: &[u8], room: &mut [u8]) -> (u8, usize) {
     let bytes: Vec<u8> = list.iter().flat_map(|s| expanded(s)).flatten().collect();
     room[..bytes.len()].copy_from_slice(&bytes);
     (0, bytes.len() / 4)
+}
+
+/// Where the commands of a step begin: how many the steps before it have, and past the last step all of them.
+pub fn begins(rows: &Rows, file: &[u8], step: usize) -> (u8, usize) {
+    steps(rows, file).map_or_else(|e| e, |list| (0, list.iter().take(step).map(|s| expanded(s).len()).sum()))
 }

@@ -13,5 +13,5 @@ judge-spec =
     (λ c κs. search needs)
     (λ c. search needs)
     (λ c. rw (c .enum-told .given .1))
-    (λ c. rw (c .before .before .before .line .given .1, ← c .before .judge .ensures) (c .judge-step .ensures))
+    (λ c. rw (c .before .before .before .line .given .1, ← c .before .judge .ensures .0) (c .judge-step .ensures))
     (λ c. rw (c .enum-told2 .given .1)))

@@ -13,7 +13,7 @@ use Rattle.commands.specs.declared.Translated.the-variants.{Commands, Refused}
 use Rattle.lines.specs.Line.{linesOf}
 use Rattle.lines.specs.Text.{header, refusal}
 use Rattle.lines.specs.Adding.{linesTo}
-use Rattle.lines.proofs.Listing.{Few, translated-few, lines-left, listed-short, listed-text}
+use Rattle.lines.proofs.Listing.{Few, translated-few, lines-left, listed-short, listed-text, listed-answered}
 use Rattle.lines.proofs.list.Statement.{statement}
 use Rattle.lines.proofs.list.Tie as tie
 
@@ -37,19 +37,19 @@ few c = translated-few _ _ _ (is-k c)
 returns : tie.Need-returns
 returns c =
     let a = start-r (c .before .before) .args in
-    let t = c .before .before .before .before .before .before .translate .ensures in (
-      listed-short (now (a .file)) (length (now (a .work))) (now (a .out)) _ (is-r (c .before .before)) (c .if1 .taken),
-      (refl, t .1 .0 ∙ ap (λ (x : Translated). leftBy x (now (a .file)) (now (a .work))) (t .0)),
-    )
+    let t = c .before .before .before .before .before .before .translate .ensures in
+    listed-answered (now (a .file)) (length (now (a .work))) (length (now (a .out)))
+    (listed-short (now (a .file)) (length (now (a .work))) (now (a .out)) _ (is-r (c .before .before)) (c .if1 .taken))
+    refl (t .1 .0 ∙ ap (λ (x : Translated). leftBy x (now (a .file)) (now (a .work))) (t .0))
 
 -- commands, and too little room for their text
 returns-2 : tie.Need-returns-2
 returns-2 c =
     let a = start-k (c .before .before) .args in
-    let t = c .before .before .before .before .before .before .translate .ensures in (
-      listed-short (now (a .file)) (length (now (a .work))) (now (a .out)) _ (is-k (c .before .before)) (c .if2 .taken),
-      (refl, t .1 .0 ∙ ap (λ (x : Translated). leftBy x (now (a .file)) (now (a .work))) (t .0)),
-    )
+    let t = c .before .before .before .before .before .before .translate .ensures in
+    listed-answered (now (a .file)) (length (now (a .work))) (length (now (a .out)))
+    (listed-short (now (a .file)) (length (now (a .work))) (now (a .out)) _ (is-k (c .before .before)) (c .if2 .taken))
+    refl (t .1 .0 ∙ ap (λ (x : Translated). leftBy x (now (a .file)) (now (a .work))) (t .0))
 
 -- the line of a refusal
 returns-3 : tie.Need-returns-3
@@ -58,7 +58,7 @@ returns-3 c =
     let t = c .before .before .before .before .before .before .before .before .before .before .before .translate .ensures in
     let l = listed-text (now (a .file)) (length (now (a .work))) (now (a .out)) _ (is-r (c .before .before .before .before .before .before .before)) (c .before .before .before .before .before .if1 .left)
     (ap refusal (c .before .before .before .number .ensures)) (c .before .before .add-refusal .ensures) in
-    (l .0, (l .1, t .1 .0 ∙ ap (λ (x : Translated). leftBy x (now (a .file)) (now (a .work))) (t .0)))
+    listed-answered (now (a .file)) (length (now (a .work))) (length (now (a .out))) (l .0) (l .1) (t .1 .0 ∙ ap (λ (x : Translated). leftBy x (now (a .file)) (now (a .work))) (t .0))
 
 -- the header and the lines
 returns-4 : tie.Need-returns-4
@@ -73,7 +73,7 @@ returns-4 c =
     let l = listed-text (now (a .file)) (length (now (a .work))) (now (a .out)) _ (is-k told) (c .before .before .before .before .before .before .if2 .left)
     (ap (λ (n : ℕ). header n k ++ linesTo left k) (c .before .before .before .before .step-count .ensures) ∙ ap (_++_ (header (stepCount (now (a .file))) k)) lines)
     (c .before .before .add-text .ensures) in
-    (l .0, (l .1, t .1 .0 ∙ ap (λ (x : Translated). leftBy x (now (a .file)) (now (a .work))) (t .0)))
+    listed-answered (now (a .file)) (length (now (a .work))) (length (now (a .out))) (l .0) (l .1) (t .1 .0 ∙ ap (λ (x : Translated). leftBy x (now (a .file)) (now (a .work))) (t .0))
 
 pub list-spec : {M : Type 1} → statement M
 list-spec =

@@ -4,7 +4,7 @@ use lib.ListN.{length}
 use lib.Seq.{length-take-le}
 use Rattle.commands.specs.Translation.{leftBy}
 use Rattle.commands.specs.declared.Translated.{Translated}
-use Rattle.play.proofs.Playing.{commands-fit, front-fits, front-commands, played-commands, played-refused, by-name}
+use Rattle.play.proofs.Playing.{commands-fit, front-fits, front-commands, played-commands, played-refused, play-answered}
 use borrow.Author.Needs.{needs}
 use native.Mathlib.Omega.{arith}
 use Rattle.play.proofs.play.Statement.{statement}
@@ -24,9 +24,9 @@ play-spec =
     (λ c. search needs)
     (λ c. let is = sym (c .before .before .before .before .before .translate .ensures .0) ∙ c .before .why .given .1 in
     let e = played-refused (c .before .before .before .before .before .before .before .before .before .args .chip) (c .before .before .before .before .before .before .before .before .before .args .file .now) (length (c .before .before .before .before .before .before .before .before .before .args .buffer .now)) _ is in
-    (e, (rw e (by-name (c .before .before .before .before .before .before .before .before .before .args .chip) (c .before .before .before .before .before .before .before .before .before .args .file .now) (length (c .before .before .before .before .before .before .before .before .before .args .buffer .now))), c .before .before .before .before .before .translate .ensures .1 .0 ∙ ap (λ (t : Translated). leftBy t (c .before .before .before .before .before .before .before .before .before .args .file .now) (c .before .before .before .before .before .before .before .before .before .args .buffer .now)) (c .before .before .before .before .before .translate .ensures .0))))
+    play-answered (c .before .before .before .before .before .before .before .before .before .args .chip) (c .before .before .before .before .before .before .before .before .before .args .file .now) (c .before .before .before .before .before .before .before .before .before .args .buffer .now) e (c .before .before .before .before .before .translate .ensures .1 .0 ∙ ap (λ (t : Translated). leftBy t (c .before .before .before .before .before .before .before .before .before .args .file .now) (c .before .before .before .before .before .before .before .before .before .args .buffer .now)) (c .before .before .before .before .before .translate .ensures .0)))
     (λ c. search needs)
     (λ c. let is = sym (c .before .before .before .before .before .before .before .before .translate .ensures .0) ∙ c .before .before .before .before .k .given .1 in
     let left = c .before .before .before .before .before .before .before .before .translate .ensures .1 .0 ∙ ap (λ (t : Translated). leftBy t (c .before .before .before .before .before .before .before .before .before .before .before .before .args .file .now) (c .before .before .before .before .before .before .before .before .before .before .before .before .args .buffer .now)) (c .before .before .before .before .k .given .1) in
     let e = played-commands (c .before .before .before .before .before .before .before .before .before .before .before .before .args .chip) (c .before .before .before .before .before .before .before .before .before .before .before .before .args .file .now) (length (c .before .before .before .before .before .before .before .before .before .before .before .before .args .buffer .now)) _ is (front-commands (c .before .before .before .before .before .before .before .before .before .before .before .before .args .file .now) (c .before .before .before .before .before .before .before .before .before .before .before .before .args .buffer .now) _ is left) (c .before .run .ensures .0) in
-    (e, (rw e (by-name (c .before .before .before .before .before .before .before .before .before .before .before .before .args .chip) (c .before .before .before .before .before .before .before .before .before .before .before .before .args .file .now) (length (c .before .before .before .before .before .before .before .before .before .before .before .before .args .buffer .now))), c .before .before .before .before .before .before .before .before .translate .ensures .1 .0 ∙ ap (λ (t : Translated). leftBy t (c .before .before .before .before .before .before .before .before .before .before .before .before .args .file .now) (c .before .before .before .before .before .before .before .before .before .before .before .before .args .buffer .now)) (c .before .before .before .before .before .before .before .before .translate .ensures .0)))))
+    play-answered (c .before .before .before .before .before .before .before .before .before .before .before .before .args .chip) (c .before .before .before .before .before .before .before .before .before .before .before .before .args .file .now) (c .before .before .before .before .before .before .before .before .before .before .before .before .args .buffer .now) e (c .before .before .before .before .before .before .before .before .translate .ensures .1 .0 ∙ ap (λ (t : Translated). leftBy t (c .before .before .before .before .before .before .before .before .before .before .before .before .args .file .now) (c .before .before .before .before .before .before .before .before .before .before .before .before .args .buffer .now)) (c .before .before .before .before .before .before .before .before .translate .ensures .0))))

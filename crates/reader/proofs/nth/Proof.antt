@@ -1,7 +1,7 @@
 -- `nth` meets its contract, by a walk of its code by hand: `over` makes a reader, which is held in a local and
 -- passed to `ask`. Of the two only their contracts are used. The local's type has its lifetime erased, and what
 -- the struct owns is the same at that type.
-use mathlib.Core.Path.{_≡_, refl, ap, _∙_}
+use mathlib.Core.Path.{_≡_, refl}
 use Prim.Native.Nat.{ℕ, _<_, _^_}
 use mathlib.Core.List.{List, [], _∷_}
 use lib.ListN.{length}
@@ -39,6 +39,7 @@ use denote.Triple.Walked.{says, Stays, stay-none, stay-none-slice, walkOf, goes-
 use denote.Exit.{yes}
 use denote.Triple.Clauses.{ensured, lasts}
 use Rattle.script.specs.Reader.{nextOf}
+use Rattle.script.specs.Numbers.{ofNext, nextTable}
 use Rattle.reader.specs.declared.Reader.{Reader}
 use Rattle.script.specs.declared.Next.{Next}
 use Rattle.reader.proofs.Reader as T
@@ -78,8 +79,9 @@ module _ {M : Type 1} (𝓤 : URA M) (H : Heap 𝓤) (A : Atoms 𝓤) (W : Given
   abbrev v : Val
   v = sliceVal (s .ptr) (length (s .now))
 
-  abbrev found : Next
-  found = nextOf (now s) n
+  -- what `ask` says of its answer on a reader, and `nth` of the same
+  abbrev Says : RefT (List ℕ) → ℕ → Next → Type 0
+  Says x j t = (t ≡ nextOf (now x) j) × (ofNext t ≡ nextTable (now x) j)
 
   -- the lifetime as a local's type has it
   abbrev αᵉ : NamedLft
@@ -114,10 +116,10 @@ module _ {M : Type 1} (𝓤 : URA M) (H : Heap 𝓤) (A : Atoms 𝓤) (W : Given
   goes-ask : (r : Reader) (u : Val) → ent 𝓤 (⋆ 𝓤 H A (‵ (B (κ, tt) .own r (u ∷ [])) ∷ (‵ (flft κ q) ⊛ ‵ ftrue) ∷ [])) (Ask 𝓤 H A mem run .pre (to-ask r u))
   goes-ask r u = qed W (‵ (B (κ, tt) .own r (u ∷ [])) ∷ (‵ (flft κ q) ⊛ ‵ ftrue) ∷ []) ∵ nothing ! $ move ! (1 ∷ 0 ∷ []) $ fjoin ! $ move ! (1 ∷ 0 ∷ []) $ join ! $ frame ! $ done !
 
-  ask-said : (r : Reader) (t : Next) → ent 𝓤 (ensured 𝓤 H A ask.ended (ask.clauses 𝓤 H A mem run) (κ, tt) (r, tt) tt t) (fact 𝓤 (t ≡ nextOf (now (r .src)) (r .at)))
-  ask-said r t = exE 𝓤 _ (λ ws. snd∗ 𝓤 (sem 𝓤 H A (lasts ask.ended (κ, tt) (r, tt) ws)) (fact 𝓤 (t ≡ nextOf (now (r .src)) (r .at))))
+  ask-said : (r : Reader) (t : Next) → ent 𝓤 (ensured 𝓤 H A ask.ended (ask.clauses 𝓤 H A mem run) (κ, tt) (r, tt) tt t) (fact 𝓤 (Says (r .src) (r .at) t))
+  ask-said r t = exE 𝓤 _ (λ ws. snd∗ 𝓤 (sem 𝓤 H A (lasts ask.ended (κ, tt) (r, tt) ws)) (fact 𝓤 (Says (r .src) (r .at) t)))
 
-  exits : (t : Next) (u : Val) → t ≡ found → ent 𝓤 (⋆ 𝓤 H A (‵ (S.the-row .own t (u ∷ [])) ∷ (‵ (flft κ q) ⊛ ‵ ftrue) ∷ ‵ Own ∷ [])) (Post u)
+  exits : (t : Next) (u : Val) → Says s n t → ent 𝓤 (⋆ 𝓤 H A (‵ (S.the-row .own t (u ∷ [])) ∷ (‵ (flft κ q) ⊛ ‵ ftrue) ∷ ‵ Own ∷ [])) (Post u)
   exits t u e =
       qed W (‵ (S.the-row .own t (u ∷ [])) ∷ (‵ (flft κ q) ⊛ ‵ ftrue) ∷ ‵ Own ∷ []) ∵
       suffices ! _ (ends-at 𝓤 H A nth.ended stayed (nth.clauses 𝓤 H A mem run) W (((κ, tt), (q, tt), tt, (s, (n, tt)), at), tt) u t (tt, (tt, tt)) (tt, (tt, tt))) $ says ! e $
@@ -138,12 +140,12 @@ module _ {M : Type 1} (𝓤 : URA M) (H : Heap 𝓤) (A : Atoms 𝓤) (W : Given
         use2 W (raw (Ask 𝓤 H A mem run .pre (to-ask r u))) (goes-ask r u) $
         calls-at ! fm (Ask 𝓤 H A mem run) known-ask (to-ask r u) (and-then ! (load ! (from ! (stop !)) (look ! 2 refl)) (no-more !)) (λ u′.
         use1 W (later (some (λ (t : Next). ((‵ (flft κ q) ⊛ ‵ ftrue) ⊛ ‵ (S.the-row .own t (u′ ∷ []))) ⊛ raw (ensured 𝓤 H A ask.ended (ask.clauses 𝓤 H A mem run) (κ, tt) (r, tt) tt t)))) (id⊢ 𝓤 _) $ await ! tt $ pick ! (λ t.
-        split ! $ move ! (1 ∷ []) $ use1 W (raw (fact 𝓤 (t ≡ nextOf (now (r .src)) (r .at)))) (ask-said r t) $ heard ! (t ≡ nextOf (now (r .src)) (r .at)) (λ e′. split ! $ move ! (1 ∷ []) $
+        split ! $ move ! (1 ∷ []) $ use1 W (raw (fact 𝓤 (Says (r .src) (r .at) t))) (ask-said r t) $ heard ! (Says (r .src) (r .at) t) (λ e′. split ! $ move ! (1 ∷ []) $
         -- [the answer; the token; the slice's share; the locals, from the last]
         peeks ! S.the-row (Is S.the-row) (shows 𝓤 H A S.the-row) t (u′ ∷ []) (λ is′.
         land ! (from ! (stop !)) (init ! 9 refl (EL.lawful S.the-type S′.the-laws 𝓤 H A W tt .typed t _ is′ .0)) $
         returns ! (look ! 9 refl) $ forget ! 3 refl $ forget ! 5 refl $ forget ! 7 refl $ forget ! 9 refl $ move ! (9 ∷ 10 ∷ []) $ free1 ! $ move ! (7 ∷ 8 ∷ []) $ free1 ! $ move ! (5 ∷ 6 ∷ []) $ free1 ! $ move ! (3 ∷ 4 ∷ []) $ free1 ! $ free0 ! $
-        by ! (exits t u′ (e′ ∙ (ap (λ (x : RefT (List ℕ)). nextOf (now x) (r .at)) (e .0) ∙ ap (nextOf (now s)) (e .1))))))))))))))))
+        by ! (exits t u′ (rw (← e .0, ← e .1) e′))))))))))))))
 
 module _ {M : Type 1} (𝓤 : URA M) (H : Heap 𝓤) (A : Atoms 𝓤) (W : Given 𝓤 H A) (mem : Memory → SProp 𝓤) (run : Routine → Fun 𝓤) where
   nth-walks : (C : Calls 𝓤 H) (Λ : Loops 𝓤 H) → FmC 𝓤 H (W .laws) C → Triple 𝓤 (C #reader·over) (Over 𝓤 H A mem run) → Triple 𝓤 (C #reader·ask) (Ask 𝓤 H A mem run)

@@ -1,5 +1,7 @@
 -- Four bytes of no known form, and a command.
+use Rattle.commands.specs.Command.{commandOf}
 use Rattle.run.specs.Run.{one}
+use Rattle.run.proofs.RunNumbers.{command-answered}
 use borrow.Author.Needs.{needs}
 use Rattle.run.proofs.command.Statement.{statement}
 use Rattle.run.proofs.command.Tie as tie
@@ -12,6 +14,8 @@ command-spec =
     (λ c κs. search needs)
     (λ c. search needs)
     (λ c. search needs)
-    (λ c. rw (← c .before .before .command-of .ensures, c .enum-told .given .1))
+    (λ c. let a = c .before .before .before .args in
+    command-answered (a .chip) (a .acc) (commandOf (a .a) (a .b) (a .c) (a .d)) (rw (← c .before .before .command-of .ensures, c .enum-told .given .1)))
     (λ c κs. search needs)
-    (λ c. rw (← c .before .before .before .before .command-of .ensures, c .before .before .x .given .1) (c .carry-out .ensures)))
+    (λ c. let a = c .before .before .before .before .before .args in
+    command-answered (a .chip) (a .acc) (commandOf (a .a) (a .b) (a .c) (a .d)) (rw (← c .before .before .before .before .command-of .ensures, c .before .before .x .given .1) (c .carry-out .ensures))))

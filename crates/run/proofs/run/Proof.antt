@@ -3,7 +3,7 @@ use Prim.Native.Nat.{_+_, _-_, _%_, _≤_, _<_}
 use mathlib.Core.Path.{_≡_, refl, _∙_}
 use lib.ListN.{length, drop}
 use Rattle.run.specs.Run.{runFrom, reads, ran}
-use Rattle.run.proofs.RunLaws.{run-answered}
+use Rattle.run.proofs.RunNumbers.{run-answered}
 use Rattle.run.proofs.Turns.{finished, limited, turned, halted, whole, uneven}
 use borrow.Author.Needs.{needs}
 use native.Mathlib.Omega.{arith}
@@ -45,7 +45,7 @@ run-spec =
     let i = l .inv in
     let room : l .at + 3 < length (a .commands .now) = omega arith in
     let below : l .place < a .limit = omega arith in
-    run-answered _ _ _ (halted (l .chip) (l .acc) (l .place) (a .limit) (a .commands .now) (l .at) room below (c .before .before .before .command .result) (c .before .before .before .command .ensures) _ (c .before .v .given .1) ∙ i .0))
+    run-answered _ _ _ (halted (l .chip) (l .acc) (l .place) (a .limit) (a .commands .now) (l .at) room below (c .before .before .before .command .result) (c .before .before .before .command .ensures .0) _ (c .before .v .given .1) ∙ i .0))
     (λ c. search needs)
     (λ c. omega arith)
     (λ c. omega arith)
@@ -55,7 +55,7 @@ run-spec =
     let i = l .inv in
     let room : l .at + 3 < length (a .commands .now) = omega arith in
     let below : l .place < a .limit = omega arith in
-    (turned (l .chip) (l .acc) (l .place) (a .limit) (a .commands .now) (l .at) room below (c .before .before .before .command .result) (c .before .before .before .command .ensures) (c .before .enum-told .given .1) ∙ i .0, i .1, omega arith, omega arith, omega arith, i .5))
+    (turned (l .chip) (l .acc) (l .place) (a .limit) (a .commands .now) (l .at) room below (c .before .before .before .command .result) (c .before .before .before .command .ensures .0) (c .before .enum-told .given .1) ∙ i .0, i .1, omega arith, omega arith, omega arith, i .5))
     (λ c. let l = c .before .loop in
     let a = c .before .before .before .before .args in
     let i = l .inv in

@@ -24,14 +24,14 @@ returns c =
     let l = c .before .before .before .before in
     let a = l .before .before .args in
     sym (l .loop .inv ∙ first-stop (λ i. isGood (stepAt (a .layout) (now (a .list)) i)) (l .loop .j) (a .count) (search needs)
-    (ap isGood (sym (c .before .before .step-at .ensures) ∙ c .enum-told2 .given .1)))
+    (ap isGood (sym (c .before .before .step-at .ensures .0) ∙ c .enum-told2 .given .1)))
 
 loop-again : tie.Need-loop-again Inv-loop μ-loop
 loop-again c =
     let l = c .before .before .before .before in
     let a = l .before .before .args in
     l .loop .inv ∙ first-more (λ i. isGood (stepAt (a .layout) (now (a .list)) i)) (l .loop .j) (a .count) (search needs)
-    (ap isGood (sym (c .before .before .step-at .ensures) ∙ c .enum-told .given .1))
+    (ap isGood (sym (c .before .before .step-at .ensures .0) ∙ c .enum-told .given .1))
 
 -- all of them pass
 returns-2 : tie.Need-returns-2 Inv-loop μ-loop

@@ -4,7 +4,7 @@ use native.Mathlib.Omega.{arith}
 use borrow.Author.Needs.{needs}
 use denote.Ref.{now}
 use Rattle.script.specs.Reader.{asNext}
-use Rattle.script.proofs.Reading.{next-there, next-past}
+use Rattle.script.proofs.Reading.{next-there, next-past, next-answered}
 use Rattle.script.proofs.next_at.Statement.{statement}
 use Rattle.script.proofs.next_at.Tie as tie
 
@@ -12,25 +12,21 @@ use Rattle.script.proofs.next_at.Tie as tie
 returns : tie.Need-returns
 returns c =
     let a = c .before .before .before .args in
-    sym (next-past (now (a .file)) (a .at) (omega (arith, c .before .step-count .ensures)))
+    next-answered (now (a .file)) (a .at) (sym (next-past (now (a .file)) (a .at) (omega (arith, c .before .step-count .ensures))))
 
--- a step
+-- what is no step
 returns-2 : tie.Need-returns-2
 returns-2 c =
-    let k = c .before in
-    let t = k .before .before .before in
-    let a = t .before .before .before .args in
-    sym (next-there (now (a .file)) (a .at) (omega (arith, t .before .step-count .ensures))
-    ∙ ap (λ r. asNext r (a .at)) (sym (k .before .before .step-at .ensures) ∙ k .step .given .1))
+    let t = c .before .before .before in
+    let a = t .before .before .before .before .args in
+    next-answered (now (a .file)) (a .at) (c .as-next .ensures ∙ ap (λ r. asNext r (a .at)) (t .step-at .ensures .0) ∙ sym (next-there (now (a .file)) (a .at) (omega (arith, t .before .before .step-count .ensures))))
 
--- six bytes that are no step
+-- a step
 returns-3 : tie.Need-returns-3
 returns-3 c =
-    let k = c .before in
-    let t = k .before .before .before in
-    let a = t .before .before .before .args in
-    sym (next-there (now (a .file)) (a .at) (omega (arith, t .before .step-count .ensures))
-    ∙ ap (λ r. asNext r (a .at)) (sym (k .before .before .step-at .ensures) ∙ k .why .given .1))
+    let t = c .before .before .before in
+    let a = t .before .before .before .before .args in
+    next-answered (now (a .file)) (a .at) (ap (λ r. asNext r (a .at)) (sym (c .before .read .given .1) ∙ t .step-at .ensures .0) ∙ sym (next-there (now (a .file)) (a .at) (omega (arith, t .before .before .step-count .ensures))))
 
 pub next-at-spec : {M : Type 1} → statement M
 next-at-spec =
@@ -41,5 +37,6 @@ next-at-spec =
     (λ c κs. search needs)
     (λ c. search needs)
     (λ c. search needs)
+    (λ c κs. search needs)
     returns-2
     returns-3)

@@ -4,7 +4,7 @@ use mathlib.Core.Path.{sym, ap, _∙_}
 use denote.Ref.{now}
 use native.Mathlib.Omega.{arith}
 use Rattle.steps.specs.Step.{readAt}
-use Rattle.steps.proofs.Codec.{read-short}
+use Rattle.steps.proofs.Codec.{read-short, read-answered}
 use Rattle.script.specs.File.{stepPlace}
 use Rattle.script.proofs.step_at.Statement.{statement}
 use Rattle.script.proofs.step_at.Tie as tie
@@ -13,19 +13,19 @@ use Rattle.script.proofs.step_at.Tie as tie
 returns : tie.Need-returns
 returns c =
     let a = c .before .before .before .args in
-    sym (read-short (now (a .list)) (stepPlace (a .layout) (a .j)) (omega (arith, c .before .ahead .ensures .0)))
+    read-answered _ (sym (read-short (now (a .list)) (stepPlace (a .layout) (a .j)) (omega (arith, c .before .ahead .ensures .0))))
 
 -- .. or inside it
 returns-2 : tie.Need-returns-2
 returns-2 c =
     let a = c .before .before .before .before .args in
-    sym (read-short (now (a .list)) (stepPlace (a .layout) (a .j)) (omega (arith, c .before .before .ahead .ensures .0)))
+    read-answered _ (sym (read-short (now (a .list)) (stepPlace (a .layout) (a .j)) (omega (arith, c .before .before .ahead .ensures .0))))
 
 -- the step is there
 returns-3 : tie.Need-returns-3
 returns-3 c =
     let a = c .before .before .before .before .before .args in
-    c .read-at .ensures ∙ ap (readAt (now (a .list))) (c .before .before .before .ahead .ensures .0)
+    read-answered _ (c .read-at .ensures .0 ∙ ap (readAt (now (a .list))) (c .before .before .before .ahead .ensures .0))
 
 pub step-at-spec : {M : Type 1} → statement M
 step-at-spec =

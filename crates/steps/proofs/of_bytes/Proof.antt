@@ -2,20 +2,21 @@
 use borrow.Author.Needs.{needs}
 use mathlib.Core.Path.{sym, _∙_}
 use Rattle.steps.specs.Step.{stepOf}
+use Rattle.steps.proofs.Codec.{read-answered}
 use Rattle.steps.proofs.of_bytes.Statement.{statement}
 use Rattle.steps.proofs.of_bytes.Tie as tie
 
 -- none of the kinds
 returns : tie.Need-returns
 unfolding stepOf
-returns c = rw (sym (c .before .before .shape .ensures) ∙ c .enum-told .given .1)
+returns c = read-answered _ (rw (sym (c .before .before .shape .ensures) ∙ c .enum-told .given .1))
 
 -- one of them
 returns-2 : tie.Need-returns-2
 unfolding stepOf
 returns-2 c =
     let k = c .before .before in
-    rw (sym (k .before .before .shape .ensures) ∙ k .step .given .1) (c .judge .ensures)
+    read-answered _ (rw (sym (k .before .before .shape .ensures) ∙ k .step .given .1) (c .judge .ensures .0))
 
 pub of-bytes-spec : {M : Type 1} → statement M
 of-bytes-spec =

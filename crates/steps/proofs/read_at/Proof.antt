@@ -5,7 +5,7 @@ use denote.Ref.{now}
 use native.Mathlib.Omega.{arith}
 use Rattle.lists.proofs.Parts.{six-at}
 use Rattle.steps.specs.Step.{stepOf}
-use Rattle.steps.proofs.Codec.{read-short}
+use Rattle.steps.proofs.Codec.{read-short, read-answered}
 use Rattle.steps.proofs.read_at.Statement.{statement}
 use Rattle.steps.proofs.read_at.Tie as tie
 
@@ -13,19 +13,19 @@ use Rattle.steps.proofs.read_at.Tie as tie
 returns : tie.Need-returns
 returns c =
     let a = c .before .before .args in
-    sym (read-short (now (a .list)) (a .place) (omega arith))
+    read-answered _ (sym (read-short (now (a .list)) (a .place) (omega arith)))
 
 -- fewer than six at the place
 returns-2 : tie.Need-returns-2
 returns-2 c =
     let a = c .before .before .before .args in
-    sym (read-short (now (a .list)) (a .place) (omega arith))
+    read-answered _ (sym (read-short (now (a .list)) (a .place) (omega arith)))
 
 -- six bytes
 returns-3 : tie.Need-returns-3
 returns-3 c =
     let a = c .before .before .before .before .before .before .before .before .before .before .args in
-    c .of-bytes .ensures ∙ ap stepOf (sym (six-at (now (a .list)) (a .place) (omega arith)))
+    read-answered _ (c .of-bytes .ensures .0 ∙ ap stepOf (sym (six-at (now (a .list)) (a .place) (omega arith))))
 
 pub read-at-spec : {M : Type 1} → statement M
 read-at-spec =

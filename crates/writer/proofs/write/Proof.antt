@@ -31,7 +31,7 @@ returns-2 c =
     let w = k .before .before .before in
     let a = w .before .before .before .before .args in
     let s = now (a .list) in
-    let e = answered s (length (now (a .out))) (write-room s _ (whole w) _ (sym (k .before .before .check-steps .ensures) ∙ k .enum-told .given .1) (c .if2 .taken)) in
+    let e = answered s (length (now (a .out))) (write-room s _ (whole w) _ (sym (k .before .before .check-steps .ensures .0) ∙ k .enum-told .given .1) (c .if2 .taken)) in
     (e .0, (e .1, refl))
 
 put-blocks-requires : tie.Need-put-blocks-requires
@@ -46,7 +46,7 @@ returns-3 c =
     let w = k .before .before .before in
     let a = w .before .before .before .before .args in
     let s = now (a .list) in
-    let e = answered s (length (now (a .out))) (write-step s _ (whole w) _ (sym (k .before .before .check-steps .ensures) ∙ k .r .given .1)) in
+    let e = answered s (length (now (a .out))) (write-step s _ (whole w) _ (sym (k .before .before .check-steps .ensures .0) ∙ k .r .given .1)) in
     (e .0, (e .1, refl))
 
 -- the file
@@ -57,7 +57,7 @@ returns-4 c =
     let w = k .before .before .before in
     let a = w .before .before .before .before .args in
     let s = now (a .list) in
-    let e = answered s (length (now (a .out))) (write-done s _ (whole w) _ (sym (k .before .before .check-steps .ensures) ∙ k .enum-told .given .1) (r .if2 .left)) in
+    let e = answered s (length (now (a .out))) (write-done s _ (whole w) _ (sym (k .before .before .check-steps .ensures .0) ∙ k .enum-told .given .1) (r .if2 .left)) in
     (e .0, (e .1, c .before .before .put-blocks .ensures))
 
 pub write-spec : {M : Type 1} → statement M

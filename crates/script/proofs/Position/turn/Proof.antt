@@ -34,7 +34,7 @@ returns : tie.Need-returns
 returns c =
     let a = c .before .before .before .args in
     let x = c .before .next-at .result in
-    turn-is (now (a .file)) (a .self .at) x (a .self .at) (c .before .next-at .ensures) (sym (stays x (a .self .at) (c .match .keys2)))
+    (turn-is (now (a .file)) (a .self .at) x (a .self .at) (c .before .next-at .ensures .0) (sym (stays x (a .self .at) (c .match .keys2))), c .before .next-at .ensures .1)
 
 add-t6 : tie.Need-add-t6
 add-t6 c =
@@ -42,7 +42,7 @@ add-t6 c =
     let f = now (a .file) in
     omega (
       arith,
-      found-before f (a .self .at) _ (sym (c .before .before .next-at .ensures) ∙ c .enum-told .given .1),
+      found-before f (a .self .at) _ (sym (c .before .before .next-at .ensures .0) ∙ c .enum-told .given .1),
       count-most f (λ i. omega (arith, c .before .before .before .shared-slice-known .given i)),
     )
 
@@ -50,9 +50,11 @@ add-t6 c =
 returns-2 : tie.Need-returns-2
 returns-2 c =
     let a = c .before .before .before .before .args in
-    let x = c .before .before .next-at .result in
-    turn-is (now (a .file)) (a .self .at) x (a .self .at + 1) (c .before .before .next-at .ensures)
-    (sym (ap (λ (n : Next). after n (a .self .at)) (c .enum-told .given .1)))
+    let x = c .before .before .next-at .result in (
+      turn-is (now (a .file)) (a .self .at) x (a .self .at + 1) (c .before .before .next-at .ensures .0)
+          (sym (ap (λ (n : Next). after n (a .self .at)) (c .enum-told .given .1))),
+      c .before .before .next-at .ensures .1,
+    )
 
 pub turn-spec : {M : Type 1} → statement M
 turn-spec =
