@@ -29,7 +29,7 @@ use Rattle.ports.proofs.PortLaws.{listedPorts, linesFrom, documented}
 use Rattle.chip.specs.State.{Named, named, join, withIndex, withPicture, withTurn}
 use Rattle.chip.specs.Names.{register, received, writableAt, portsOpen, colour, eightBit}
 use Rattle.chip.specs.Palette.{entry, rgb, shown}
-use Rattle.chip.specs.Access.{numberOf, portWritten, portRead, wrote}
+use Rattle.chip.specs.Access.{numberOf, accessNumber, portWritten, portRead, wrote}
 use Rattle.chip.specs.Reset.{reset, resetByte}
 use Rattle.chip.specs.Reach.{Reach}
 use Rattle.chip.specs.declared.Chip.{Chip}
@@ -65,19 +65,32 @@ use Rattle.script.specs.Reader.{nextOf}
 use Rattle.script.specs.declared.Checked.the-variants.{Accepted}
 use Rattle.script.specs.declared.Next.the-variants.{End}
 use Rattle.script.proofs.Checking as checking
-use Rattle.writer.specs.Write.{fileOf, written as listWritten, leftBy as listLeftBy, stepsOf}
+use Rattle.writer.specs.Write.{fileOf, written as listWritten, leftBy as listLeftBy, ofWritten, listTable, stepsOf}
 use Rattle.writer.specs.declared.Written.the-variants.{Blocks}
 use Rattle.writer.proofs.RoundTrip as round-trip
+use Rattle.writer.proofs.Writing as writing
 use Rattle.commands.specs.Command.{bytesOfAll}
-use Rattle.commands.specs.Translation.{stepsTo, commandsTo, begins}
-use Rattle.run.specs.Run.{ran, ofEnding, least}
+use Rattle.commands.specs.Translation.{stepsTo, commandsTo, begins, translated, numbersOf, translationTable}
+use Rattle.commands.proofs.Translating as translating
+use Rattle.commands.proofs.Counted as counted
+use Rattle.commands.proofs.Counted.{sixes, placesTo}
+use Rattle.run.specs.Run.{ran, ofEnding, least, runTable}
+use Rattle.run.specs.declared.Ending.{Ending}
 use Rattle.run.proofs.RunLaws as run-laws
+use Rattle.run.proofs.RunNumbers as run-number-laws
 use Rattle.play.specs.ByName.{applied, appliedAll}
 use Rattle.play.proofs.Demand3 as scripts
+use Rattle.play.proofs.Scripts as script-laws
+use Rattle.play.proofs.Scripts.{AllPass}
 use Rattle.play.proofs.Idle as idle-laws
 use Rattle.chip.proofs.NameLaws.{Bytes as NamedBytes}
+use Rattle.state.specs.Layout.{whole, view, spare}
 use Rattle.state.specs.Accesses.{Left}
 use Rattle.state.proofs.Whole as whole-laws
+use Rattle.drive.specs.Drive.{driveAnswer}
+use Rattle.drive.specs.declared.Driven.{Driven}
+use Rattle.drive.specs.declared.Driven.the-variants.{Ran}
+use Rattle.perform.proofs.Demand3 as lent-scripts
 use Rattle.showing.specs.Show.{textOf}
 use Rattle.composing.specs.Compose.{composed, leftBy as textLeftBy}
 use Rattle.composing.specs.declared.Composed.the-variants.{Blocks as ComposedBlocks}
@@ -122,7 +135,22 @@ refused-transfer = blit-laws.refused-numbered
 pub file-numbers : (f : List ℕ) → ofChecked (checked f) ≡ fileTable f
 file-numbers = checking.checked-number
 
--- A run counts the least of the limit, the commands there are and those before the first refused one.
+-- A list of steps written, and a file translated: 8, 6 of a file, 7 or 11, 9, else what there is.
+pub list-numbers : (l : List ℕ) (room : ℕ) → ofWritten (listWritten l room) ≡ listTable l room
+list-numbers = writing.written-number
+
+pub translation-numbers : (f : List ℕ) (room : ℕ) → numbersOf (translated f room) ≡ translationTable f room
+translation-numbers = translating.translated-number
+
+-- A run: 10 for the length, before any runs; else the number of the command behind those carried out, 10 for no known form, else that of
+-- its port access, 2 and then 1; else 0.
+pub run-numbers : (c : Chip) (bytes : List ℕ) (limit : ℕ) → ofEnding (ran c bytes limit .ending) ≡ runTable c bytes limit
+run-numbers = run-number-laws.run-number
+
+pub access-numbers : (write : Bool) (c : Chip) (p : ℕ) → accessNumber write c p ≡ cond (portsOpen (named c)) (cond (has p (listedPorts write)) 0 1) 2
+access-numbers = number-laws.number-listed
+
+-- It counts the least of the limit, the commands there are and those before the first refused one.
 pub run-count : (c : Chip) (bytes : List ℕ) (limit : ℕ) → ran c bytes limit .count ≡ least c bytes limit
 run-count = run-laws.count-least
 
@@ -194,6 +222,26 @@ pub demand-3 : (file : List ℕ) (m : ℕ) → checked file ≡ Accepted m → (
 demand-3 file m acc first second strapped c reach n h =
     let r = scripts.demand-3 .holds file m acc first second strapped c reach n h in
     (r .count, r .unrefused, r .byName, r .picture)
+
+-- It is not had by a reader that hands out nothing, nor by a check that accepts nothing: the first n steps of an accepted file are n, their
+-- bytes are those at the file's places, and every list of 1 to 1,008 steps that pass is the list of an accepted file.
+pub demand-3-counted : (f : List ℕ) (m : ℕ) → checked f ≡ Accepted m → (n : ℕ) → n ≤ m
+    → (length (stepsTo f n) ≡ n) × (sixes (stepsTo f n) ≡ placesTo f n)
+demand-3-counted f m acc n h = (counted.steps-counted f m acc n h, counted.steps-stand f m acc n h)
+
+pub demand-3-every-script : (ss : List Step) → 1 ≤ length ss → length ss ≤ 1008 → AllPass ss
+    → (file : List ℕ) × (checked file ≡ Accepted (length ss)) × (stepsTo file (length ss) ≡ ss)
+demand-3-every-script ss some few pass = let r = script-laws.script-there ss some few pass in (r .file, r .accepted, r .steps)
+
+-- The same on lent bytes, after each step, of any bytes that hold a chip whose ports are open: what `drive` answers, and leaves.
+pub demand-3-on-lent-bytes : (file : List ℕ) (m : ℕ) → checked file ≡ Accepted m → (l : List ℕ) → length l ≡ whole → portsOpen (named (view l)) ≡ true
+    → (n : ℕ) → n ≤ m → (r : Driven) (after : List ℕ) → r ≡ driveAnswer l (bytesOfAll (commandsTo file m)) (begins file n)
+    → Left l (ran (view l) (bytesOfAll (commandsTo file m)) (begins file n) .chip) (spare l) after
+    → ((e : Ending) × (r ≡ Ran (begins file n) e) × (ofEnding e ≡ returned 0 0))
+    × (named (view after) ≡ appliedAll (stepsTo file n) (named (view l))) × (view after .picture ≡ view l .picture)
+demand-3-on-lent-bytes file m acc l size open-ports n h r after answer left =
+    let a = lent-scripts.demand-3-in .holds file m acc l size open-ports n h r after answer left in
+    ((a .ending, a .answer, a .unrefused), a .byName, a .picture)
 
 -- ==== Document 01's set-ups, and those of requests
 
