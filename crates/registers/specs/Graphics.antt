@@ -1,6 +1,6 @@
 -- Chapter 11 of the databook, graphics controller registers: the 9 that its list has, in the order of their indexes.
 -- A row is index, title, writable bits, reset byte.
--- docs/DECISIONS.md names the rows that could be read otherwise.
+-- docs/DATABOOK.md names the rows that could be read otherwise.
 use mathlib.Core.List.{List, [], _∷_}
 use Rattle.registers.specs.Rows.{Register, reg}
 

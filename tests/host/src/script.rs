@@ -1,6 +1,6 @@
 //! Scripts, written from documents 01 and 02 (P1, P2, P5): a file checked, a list of steps written as a file, a file translated
 //! into commands, and where a step's commands begin. Each answers a number and a value. The commands of group 8 are those of
-//! docs/DECISIONS.md, part 6.
+//! docs/SCOPE.md, Commands.
 
 use crate::model::Rows;
 
