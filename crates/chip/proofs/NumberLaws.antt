@@ -6,13 +6,13 @@ use mathlib.Core.Bool.{Bool, true, false, cond}
 use mathlib.Core.Path.{_≡_, refl, ap, _∙_}
 use mathlib.Core.Logic.{_↔_}
 use Rattle.registers.proofs.Stretches.{has}
-use Rattle.ports.specs.Ports.{ports, target}
-use Rattle.ports.proofs.PortLaws.{listed, listedPorts, listed-exactly}
+use Rattle.ports.specs.Ports.{ports, target, isListed}
+use Rattle.ports.proofs.PortLaws.{listedPorts, listed-exactly}
 use Rattle.ports.specs.declared.Target.{Target}
 use Rattle.ports.specs.declared.Target.the-variants.{Index, Data, ReadIndex, WriteIndex, Paldata, Attribute, Status, NotPicked, NotListed}
 use Rattle.chip.specs.State.{named}
 use Rattle.chip.specs.Names.{portsOpen, colour}
-use Rattle.chip.specs.Access.{numberOf, isListed, accessNumber, writeTo, readFrom, portWritten, portRead, wrote, seen}
+use Rattle.chip.specs.Access.{numberOf, accessNumber, writeTo, readFrom, portWritten, portRead, wrote, seen}
 use Rattle.chip.specs.declared.Chip.{Chip}
 use Rattle.chip.specs.declared.access.Wrote.{Wrote}
 use Rattle.chip.specs.declared.access.Seen.{Seen}
@@ -74,22 +74,11 @@ pub read-answered : (c : Chip) (p : ℕ) {r : Seen} → r ≡ portRead c p → (
 read-answered c p e = (e, ap (λ (s : Seen). numberOf (s .answer)) e ∙ read-number c p)
 
 -- listed is what document 01's table lists (`documented` of `ports`), whichever pair is picked: the number by that list
-listed-same : (t : Target) → isListed t ≡ listed t
-listed-same (Index g) = refl
-listed-same (Data g) = refl
-listed-same ReadIndex = refl
-listed-same WriteIndex = refl
-listed-same Paldata = refl
-listed-same Attribute = refl
-listed-same Status = refl
-listed-same NotPicked = refl
-listed-same NotListed = refl
-
 pub number-listed : (write : Bool) (c : Chip) (p : ℕ) → accessNumber write c p ≡ cond (portsOpen (named c)) (cond (has p (listedPorts write)) 0 1) 2
 unfolding accessNumber
 number-listed write c p =
     ap (λ (z : Bool). cond (portsOpen (named c)) (cond z 0 1) 2)
-    (listed-same (target (colour (named c)) write p) ∙ listed-exactly (colour (named c)) write p)
+    (listed-exactly (colour (named c)) write p)
 
 -- each number exactly when: 2 if the ports are closed, 1 if they are open and the port or its direction is not listed, 0 if they
 -- are open and it is

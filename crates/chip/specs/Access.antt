@@ -3,7 +3,7 @@
 -- attribute registers are document 02's, P1.
 use Prim.Native.Nat.{ℕ}
 use mathlib.Core.Bool.{Bool, true, false, cond}
-use Rattle.ports.specs.Ports.{target}
+use Rattle.ports.specs.Ports.{target, isListed}
 use Rattle.ports.specs.declared.Target.{Target}
 use Rattle.ports.specs.declared.Target.the-variants.{Index, Data, ReadIndex, WriteIndex, Paldata, Attribute, Status, NotPicked, NotListed}
 use Rattle.chip.specs.State.{named, join, withNamed, withIndexes, withLoading, indexOf, withIndex}
@@ -51,18 +51,6 @@ readFrom Attribute c = seen Done (attributeIndex c) c
 readFrom Status c = seen Done 0x00 (turnReturned c)
 readFrom NotPicked c = seen Done 0xFF c
 readFrom NotListed c = seen Unlisted 0xFF c
-
--- whether a port is listed for a direction, by where it leads
-abbrev pub isListed : Target → Bool
-isListed (Index g) = true
-isListed (Data g) = true
-isListed ReadIndex = true
-isListed WriteIndex = true
-isListed Paldata = true
-isListed Attribute = true
-isListed Status = true
-isListed NotPicked = true
-isListed NotListed = false
 
 -- the number that a port write (true) or read (false) is given: 2 while the ports are closed, else 1 if the port or its
 -- direction is not listed, else 0. That the answers below have it, and each exactly then, is in proofs/NumberLaws

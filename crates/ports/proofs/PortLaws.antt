@@ -11,7 +11,7 @@ use borrow.Author.Tests.{eqb-true, not-true}
 use Rattle.lists.proofs.Tests.{and-both}
 use Rattle.registers.proofs.Stretches.{has}
 use Rattle.registers.specs.declared.Group.the-variants.{Cr, Sr, Gr, Xr, Fr, Mr, Msr, Palmask, Ar}
-use Rattle.ports.specs.Ports.{Port, ports, targetIn, target}
+use Rattle.ports.specs.Ports.{Port, ports, targetIn, target, isListed}
 use Rattle.ports.specs.declared.Target.{Target}
 use Rattle.ports.specs.declared.Target.the-variants.{Index, Data, ReadIndex, WriteIndex, Paldata, Attribute, Status, NotPicked, NotListed}
 
@@ -59,20 +59,9 @@ documented colour =
     chosen : Target → Target
     chosen t = cond colour t NotPicked
 
-abbrev pub listed : Target → Bool
-listed (Index g) = true
-listed (Data g) = true
-listed ReadIndex = true
-listed WriteIndex = true
-listed Paldata = true
-listed Attribute = true
-listed Status = true
-listed NotPicked = true
-listed NotListed = false
-
 -- a line in front of others, if it is listed in some direction
 abbrev keeping : Line → List Line → List Line
-keeping l ls = cond (listed (l .written) || listed (l .read)) (l ∷ ls) ls
+keeping l ls = cond (isListed (l .written) || isListed (l .read)) (l ∷ ls) ls
 
 -- the lines of the n ports from p on, as `target` has them
 abbrev pub linesFrom : Bool → ℕ → ℕ → List Line
@@ -87,7 +76,7 @@ ports-documented false = refl
 -- the ports that the table lists for writing (true) or for reading (false)
 abbrev pub listedIn : Bool → List Line → List ℕ
 listedIn write [] = []
-listedIn write (l ∷ ls) = cond (listed (cond write (l .written) (l .read))) (l .port ∷ listedIn write ls) (listedIn write ls)
+listedIn write (l ∷ ls) = cond (isListed (cond write (l .written) (l .read))) (l .port ∷ listedIn write ls) (listedIn write ls)
 
 abbrev pub listedPorts : Bool → List ℕ
 listedPorts write = listedIn write (documented true)
@@ -132,23 +121,23 @@ among t (k ∷ ks) p all h = let (here, others) = and-both (t k) (at-each t ks) 
     go false e here later u = later u
 
 -- a port is listed for a direction exactly where the table lists it, whichever pair is picked
-listed-reached : (colour write : Bool) → at-each (λ q. listed (target colour write q)) (listedPorts write) ≡ true
+listed-reached : (colour write : Bool) → at-each (λ q. isListed (target colour write q)) (listedPorts write) ≡ true
 unfolding target ports
 listed-reached true true = refl
 listed-reached true false = refl
 listed-reached false true = refl
 listed-reached false false = refl
 
-no-other : (colour write : Bool) → holds (λ t. not (listed t)) (listedPorts write) write (ports colour) ≡ true
+no-other : (colour write : Bool) → holds (λ t. not (isListed t)) (listedPorts write) write (ports colour) ≡ true
 unfolding ports
 no-other true true = refl
 no-other true false = refl
 no-other false true = refl
 no-other false false = refl
 
-pub listed-exactly : (colour write : Bool) (p : ℕ) → listed (target colour write p) ≡ has p (listedPorts write)
+pub listed-exactly : (colour write : Bool) (p : ℕ) → isListed (target colour write p) ≡ has p (listedPorts write)
 listed-exactly colour write p = go (has p (listedPorts write)) refl
   where
-    go : (z : Bool) → has p (listedPorts write) ≡ z → listed (target colour write p) ≡ z
-    go true e = among (λ q. listed (target colour write q)) (listedPorts write) p (listed-reached colour write) e
-    go false e = not-true _ (target-elsewhere (λ t. not (listed t)) (listedPorts write) colour write p (no-other colour write) e)
+    go : (z : Bool) → has p (listedPorts write) ≡ z → isListed (target colour write p) ≡ z
+    go true e = among (λ q. isListed (target colour write q)) (listedPorts write) p (listed-reached colour write) e
+    go false e = not-true _ (target-elsewhere (λ t. not (isListed t)) (listedPorts write) colour write p (no-other colour write) e)

@@ -2,7 +2,7 @@
 -- the CR pair: 1 is 3D4h and 3D5h, 0 is 3B4h and 3B5h. Document 02, P1, with chapter 12 of the databook: 3C0h takes the attribute
 -- index and data by turns, 3C1h reads the data, and input status 1 is read at 3DAh or 3BAh, by the same bit.
 use Prim.Native.Nat.{ℕ}
-use mathlib.Core.Bool.{Bool, cond, not}
+use mathlib.Core.Bool.{Bool, true, false, cond, not}
 use mathlib.Core.List.{List, [], _∷_}
 use lib.Dec.{eqb}
 use Rattle.ports.specs.declared.Target.{Target}
@@ -63,3 +63,15 @@ targetIn (r ∷ rs) write p = cond (eqb p (r .number)) (r .leads write) (targetI
 -- where a port leads when it is written or read
 unfoldable pub target : Bool → Bool → ℕ → Target
 target colour write p = targetIn (ports colour) write p
+
+-- whether a port is listed for a direction, by where it leads
+abbrev pub isListed : Target → Bool
+isListed (Index g) = true
+isListed (Data g) = true
+isListed ReadIndex = true
+isListed WriteIndex = true
+isListed Paldata = true
+isListed Attribute = true
+isListed Status = true
+isListed NotPicked = true
+isListed NotListed = false
