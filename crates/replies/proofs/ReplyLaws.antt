@@ -10,7 +10,7 @@ use Rattle.chip.specs.State.{Named}
 use Rattle.dump.proofs.Lengths.{dumped-most}
 use Rattle.replies.specs.Reply.{replyText}
 use Rattle.replies.specs.declared.Reply.{Reply}
-use Rattle.replies.specs.declared.Reply.the-variants.{Number, Byte, Colour, Registers, Unknown}
+use Rattle.replies.specs.declared.Reply.the-variants.{Number, Byte, Colour, Registers, Requests, Nothing, Unknown}
 
 -- ---- the text of an answer
 module _ (n : Named) where
@@ -20,6 +20,8 @@ module _ (n : Named) where
   length-reply (Byte k v) = let h : length (decimal k) ≤ 20 = decimal-most 20 k in simp length-append (omega arith)
   length-reply (Colour red green blue) = omega arith
   length-reply Registers = dumped-most n
+  length-reply Requests = omega arith
+  length-reply Nothing = omega arith
   length-reply Unknown = omega arith
 
   -- `0`

@@ -22,6 +22,10 @@ pub enum Reply {
     Colour(u8, u8, u8),
     // All registers.
     Registers,
+    // The requests, with a form each.
+    Requests,
+    // Nothing is said.
+    Nothing,
     // The line was not known.
     Unknown,
 }
@@ -87,6 +91,12 @@ fn add_reply(chip: Chip, reply: Reply, out: &mut [u8], at: usize) -> usize
             add(out, at, &text)
         }
         Reply::Registers => add_registers(chip, out, at),
+        Reply::Requests => add(
+            out,
+            at,
+            b"reset FF FF    a reset with the two pin bytes\no 3D6 60       a byte to a port\ni 3D7          a byte from a port\np 07           the colour that a pixel with this byte shows\nm 200000       so many bytes of memory, all 0\nr 1FFF         a byte of memory\nw 1FFF 5A      a byte into memory\nt 1F 10 0 10 4 2 CC 0 0 40 7\n               a block transfer: destination, span, source, span, width, height, raster code,\n               right to left, bottom to top, pattern, row\nd              all registers by name\n? or help      this list\nq              the end\n",
+        ),
+        Reply::Nothing => at,
         Reply::Unknown => add(out, at, b"?\n"),
     }
 }

@@ -7,7 +7,7 @@ use Rattle.words.specs.Hex.{digitValue, allDigits, valueIn, numberOf}
 use Rattle.words.specs.Words.{grown, ended, taken, takenAll, wordsOf}
 use Rattle.requests.specs.Request.{fits, value, isTransfer, transferOf, requestOf}
 use Rattle.requests.specs.declared.Request.{Request}
-use Rattle.requests.specs.declared.Request.the-variants.{Reset, Out, In, Block, Dump, Unknown}
+use Rattle.requests.specs.declared.Request.the-variants.{Reset, Out, In, Block, Dump, Help, Quit, Pass, Unknown}
 
 -- what a line asks for
 unfoldable pub asked : List ℕ → Request
@@ -76,3 +76,21 @@ pub number-left-out : asked (0x74 ∷ 0x20 ∷ 0x31 ∷ 0x30 ∷ 0x30 ∷ 0x30 �
     ≡ Unknown
 unfolding asked requestOf isTransfer transferOf fits value numberOf allDigits valueIn digitValue wordsOf takenAll taken ended grown
 number-left-out = refl
+
+-- `?`, `help` and `q`
+pub help-line : asked (0x3F ∷ []) ≡ Help
+unfolding asked requestOf isTransfer transferOf fits value numberOf allDigits valueIn digitValue wordsOf takenAll taken ended grown
+help-line = refl
+
+pub help-word-line : asked (0x68 ∷ 0x65 ∷ 0x6C ∷ 0x70 ∷ []) ≡ Help
+unfolding asked requestOf isTransfer transferOf fits value numberOf allDigits valueIn digitValue wordsOf takenAll taken ended grown
+help-word-line = refl
+
+pub end-line : asked (0x71 ∷ []) ≡ Quit
+unfolding asked requestOf isTransfer transferOf fits value numberOf allDigits valueIn digitValue wordsOf takenAll taken ended grown
+end-line = refl
+
+-- a space and a carriage return
+pub blank-line : asked (0x20 ∷ 0x0D ∷ []) ≡ Pass
+unfolding asked requestOf isTransfer transferOf fits value numberOf allDigits valueIn digitValue wordsOf takenAll taken ended grown
+blank-line = refl

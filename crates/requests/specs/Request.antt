@@ -1,5 +1,5 @@
 -- What the words of a line ask for. The first word is the request's name, numbers follow it, each of one to eight hexadecimal digits,
--- and no word stands behind them. A line of any other form is Unknown, and so is one with a number that does not fit its place: a port
+-- and no word stands behind them. A line without words is passed over. A line of any other form is Unknown, and so is one with a number that does not fit its place: a port
 -- is at most FFFFh; a byte, a pin byte, a pixel and a raster code are at most FFh; a direction is 0 or 1. Worked lines are
 -- proofs/WorkedLines.
 use Prim.Native.Nat.{ℕ, _+_}
@@ -12,7 +12,7 @@ use Rattle.words.specs.declared.Number.{Number}
 use Rattle.words.specs.declared.Number.the-variants.{Of, Other}
 use Rattle.blit_frame.specs.declared.Transfer.{Transfer}
 use Rattle.requests.specs.declared.Request.{Request}
-use Rattle.requests.specs.declared.Request.the-variants.{Reset, Out, In, Pixel, Lend, Read, Write, Block, Dump, Unknown}
+use Rattle.requests.specs.declared.Request.the-variants.{Reset, Out, In, Pixel, Lend, Read, Write, Block, Dump, Help, Quit, Pass, Unknown}
 
 -- ---- a word as a number that is at most so much, and its value, 0 where it is no such number
 abbrev pub upTo : ℕ → Number → Bool
@@ -79,7 +79,7 @@ transferOf w = record {
   row = number w 11;
 }
 
--- ---- the requests: `RESET`, and `O`, `I`, `P`, `M`, `R`, `W`, `T` and `D`
+-- ---- the requests: `RESET`; `O`, `I`, `P`, `M`, `R`, `W`, `T` and `D`; `?` and `HELP`; and `Q`
 unfoldable pub requestOf : Words → Request
 requestOf w =
     cond (form w 0x5245534554 2 && isByte w 1 && isByte w 2) (Reset (byte w 1) (byte w 2))
@@ -91,4 +91,8 @@ requestOf w =
     (cond (form w 0x57 2 && isNumber w 1 && isByte w 2) (Write (number w 1) (byte w 2))
     (cond (form w 0x54 11 && isTransfer w) (Block (transferOf w))
     (cond (form w 0x44 0) Dump
-    Unknown))))))))
+    (cond (form w 0x3F 0) Help
+    (cond (form w 0x48454C50 0) Help
+    (cond (form w 0x51 0) Quit
+    (cond (eqb (word w 0) 0) Pass
+    Unknown))))))))))))

@@ -30,6 +30,12 @@ pub enum Request {
     Block(Transfer),
     // `D`: all registers.
     Dump,
+    // `?` and `HELP`: the requests.
+    Help,
+    // `Q`: the end.
+    Quit,
+    // A line without words.
+    Pass,
     // Any other line.
     Unknown,
 }
@@ -214,6 +220,25 @@ pub fn request_of(w: Words) -> Request
             }
             Request::Unknown
         }
+        0x3F => {
+            if at[1] == 0 {
+                return Request::Help;
+            }
+            Request::Unknown
+        }
+        0x4845_4C50 => {
+            if at[1] == 0 {
+                return Request::Help;
+            }
+            Request::Unknown
+        }
+        0x51 => {
+            if at[1] == 0 {
+                return Request::Quit;
+            }
+            Request::Unknown
+        }
+        0x00 => Request::Pass,
         _ => Request::Unknown,
     }
 }

@@ -1,18 +1,19 @@
--- Lines of input, each answered by a text. A line of more than 255 bytes is not known. A sitting is what there is between two bytes
--- of input, lent bytes included. A line feed has the line answered, any other byte goes behind the line, where there is room for it.
--- Input is fed while any reply has room behind the text. That input in parts is the same as in one is proofs/PartLaws; how the line
--- and the text grow, proofs/DeskLaws.
+-- Lines of input, each answered by a text. Once the end was asked for, every line is passed over. A line that begins with
+-- `#` is passed over. Any other of more than 255 bytes is not known. A sitting is what there is between two bytes of input,
+-- lent bytes included. A line feed has the line answered, any other byte goes behind the line, where there is room for it.
+-- Input is fed while any reply has room behind the text. That input in parts is the same as in one is proofs/PartLaws; how
+-- the line and the text grow, proofs/DeskLaws.
 use Prim.Native.Nat.{ℕ, _+_}
 use mathlib.Core.Bool.{Bool, cond}
 use mathlib.Core.List.{List, [], _∷_}
 use lib.Dec.{ltb, leb, eqb}
-use lib.ListN.{length, take, drop, set}
+use lib.ListN.{length, take, drop, set, getD}
 use Rattle.chip.specs.State.{Named, named}
 use Rattle.text.specs.Adding.{withAddedIn, behindIn}
 use Rattle.words.specs.Words.{wordsOf}
 use Rattle.requests.specs.Request.{requestOf}
 use Rattle.requests.specs.declared.Request.{Request}
-use Rattle.requests.specs.declared.Request.the-variants.{Unknown}
+use Rattle.requests.specs.declared.Request.the-variants.{Pass, Unknown}
 use Rattle.replies.specs.Reply.{replyText}
 use Rattle.session.specs.Session.{acted, storeAfter}
 use Rattle.session.specs.declared.Bench.{Bench}
@@ -23,14 +24,16 @@ use Rattle.session.specs.declared.desk.Fed.{Fed}
 
 -- ---- one line
 
-unfoldable pub requestIn : List ℕ → Request
-requestIn line = cond (ltb 255 (length line)) Unknown (requestOf (wordsOf line))
+-- a line on a bench where the end was asked for or not; `#` is 23h
+unfoldable pub requestIn : Bool → List ℕ → Request
+requestIn ended line =
+    cond ended Pass (cond (eqb (getD line 0 0) 0x23) Pass (cond (ltb 255 (length line)) Unknown (requestOf (wordsOf line))))
 
 abbrev pub lineActed : Bench → List ℕ → List ℕ → Acted
-lineActed b store line = acted b store (requestIn line)
+lineActed b store line = acted b store (requestIn (b .ended) line)
 
 abbrev pub storeLeft : Bench → List ℕ → List ℕ → List ℕ
-storeLeft b store line = storeAfter b store (requestIn line)
+storeLeft b store line = storeAfter b store (requestIn (b .ended) line)
 
 -- what has a name afterwards: all registers are shown as the request leaves them
 abbrev pub namedIn : Acted → Named
@@ -48,8 +51,8 @@ outLeft out at a = withAddedIn 8192 out at (textOf a)
 
 -- ---- bytes as they come
 
--- what there is between two bytes of input: the bench, the store, the bytes lent for a line, of which the first `size` are the line so
--- far, and the bytes lent for replies, of which the first `next` are the text so far
+-- what there is between two bytes of input: the bench, the store, the bytes lent for a line, of which the first `size` are
+-- the line so far, and the bytes lent for replies, of which the first `next` are the text so far
 pub record Sitting : Type 0 where
   pub bench : Bench
   pub store : List ℕ

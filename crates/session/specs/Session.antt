@@ -3,7 +3,7 @@
 -- change the store, and no byte behind the memory. The numbers are document 01's, "Numbers returned"; what an access to a port and
 -- an access to memory do is said in the crates chip, memory, blit_frame and blit.
 use Prim.Native.Nat.{ℕ}
-use mathlib.Core.Bool.{Bool, cond, _&&_}
+use mathlib.Core.Bool.{Bool, true, cond, _&&_}
 use mathlib.Core.List.{List, _++_}
 use lib.Dec.{ltb, leb}
 use lib.ListN.{length, take, drop, replicate}
@@ -19,19 +19,23 @@ use Rattle.memory.specs.Memory.{lengthAllowed, byteNumber, byteValue, byteWritt
 use Rattle.blit_frame.specs.Frame.{judgedNumber}
 use Rattle.blit.specs.Transfer.{transferred}
 use Rattle.requests.specs.declared.Request.{Request}
-use Rattle.requests.specs.declared.Request.the-variants.{Reset, Out, In, Pixel, Lend, Read, Write, Block, Dump, Unknown}
+use Rattle.requests.specs.declared.Request.the-variants.{Reset, Out, In, Pixel, Lend, Read, Write, Block, Dump, Help, Quit, Pass, Unknown}
 use Rattle.replies.specs.declared.Reply.{Reply}
-use Rattle.replies.specs.declared.Reply.the-variants.{Number, Byte, Colour, Registers, Unknown as NoForm}
+use Rattle.replies.specs.declared.Reply.the-variants.{Number, Byte, Colour, Registers, Requests, Nothing, Unknown as NoForm}
 use Rattle.session.specs.declared.Bench.{Bench}
 use Rattle.session.specs.declared.Acted.{Acted}
 
 -- ---- the bench
 
 abbrev pub withChip : Bench → Chip → Bench
-withChip b c = record { chip = c; lent = b .lent }
+withChip b c = record { chip = c; lent = b .lent; ended = b .ended }
 
 abbrev pub withLent : Bench → ℕ → Bench
-withLent b n = record { chip = b .chip; lent = n }
+withLent b n = record { chip = b .chip; lent = n; ended = b .ended }
+
+-- the end was asked for: no line behind it is answered (Desk)
+abbrev pub withEnd : Bench → Bench
+withEnd b = record { chip = b .chip; lent = b .lent; ended = true }
 
 abbrev pub replied : Bench → Reply → Acted
 replied b r = record { bench = b; reply = r }
@@ -93,6 +97,9 @@ acted b store (Read a) = afterRead b (byteNumber (length (memory (b .lent) store
 acted b store (Write a v) = replied b (Number (byteNumber (length (memory (b .lent) store)) a))
 acted b store (Block t) = replied b (Number (judgedNumber (length (memory (b .lent) store)) t))
 acted b store Dump = replied b Registers
+acted b store Help = replied b Requests
+acted b store Quit = replied (withEnd b) Nothing
+acted b store Pass = replied b Nothing
 acted b store Unknown = replied b NoForm
 
 unfoldable pub storeAfter : Bench → List ℕ → Request → List ℕ
@@ -105,4 +112,7 @@ storeAfter b store (Read a) = store
 storeAfter b store (Write a v) = withMemory (b .lent) store (byteWritten (memory (b .lent) store) a v)
 storeAfter b store (Block t) = withMemory (b .lent) store (transferred (memory (b .lent) store) t)
 storeAfter b store Dump = store
+storeAfter b store Help = store
+storeAfter b store Quit = store
+storeAfter b store Pass = store
 storeAfter b store Unknown = store

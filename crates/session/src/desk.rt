@@ -9,6 +9,7 @@ ghost use Rattle.session.specs.Desk.{requestIn, lineActed, storeLeft, an
 use crate::Bench;
 use crate::act;
 use crate::shorter_of;
+use lists::byte_at;
 use replies::print;
 use requests::Request;
 use requests::request_of;
@@ -34,9 +35,15 @@ pub struct Fed {
 }
 
 // What a line asks for.
-fn request_in(line: &[u8]) -> Request
-    ensures { λ r. ⌜ r ≡ requestIn (now (line .entry)) ⌝ }
+fn request_in(ended: bool, line: &[u8]) -> Request
+    ensures { λ r. ⌜ r ≡ requestIn ended (now (line .entry)) ⌝ }
 {
+    if ended {
+        return Request::Pass;
+    }
+    if byte_at(line, 0) == 0x23 {
+        return Request::Pass;
+    }
     if 255 < line.len() {
         return Request::Unknown;
     }
@@ -50,7 +57,7 @@ pub fn answer(b: Bench, store: &mut [u8], line: &[u8], out: &mut [u8], at: usize
     ensures { λ r. ⌜ now (store .exit) ≡ storeLeft b (now (store .entry)) (now (line .entry)) ⌝ }
     ensures { λ r. ⌜ now (out .exit) ≡ outLeft (now (out .entry)) at (lineActed b (now (store .entry)) (now (line .entry))) ⌝ }
 {
-    let r = request_in(line);
+    let r = request_in(b.ended, line);
     let a = act(b, store, r);
     let bench = a.bench;
     let chip = bench.chip;

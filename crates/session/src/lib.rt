@@ -11,7 +11,7 @@ ghost use Rattle.memory.specs.Memory.{readNumber, readValue, byteNumber, byteVa
 ghost use Rattle.blit_frame.specs.Frame.{judgedNumber};
 ghost use Rattle.blit.specs.Transfer.{transferred};
 ghost use Rattle.session.specs.Session.{memory, withMemory, shorter, cleared, lentFrom, acted, storeAfter};
-ghost use Rattle.session.specs.Session.{afterReset, afterOut, afterIn, afterPixel, afterLend, afterRead};
+ghost use Rattle.session.specs.Session.{withEnd, replied, afterReset, afterOut, afterIn, afterPixel, afterLend, afterRead};
 use blit_frame::Transfer;
 use chip::Chip;
 use memory::Read;
@@ -20,10 +20,11 @@ use requests::Request;
 
 pub mod desk;
 
-// The chip, and how many bytes of the store are its video memory.
+// The chip, how many bytes of the store are its video memory, and whether the end was asked for.
 pub struct Bench {
     pub chip: Chip,
     pub lent: usize,
+    pub ended: bool,
 }
 
 // The bench after a request, and the reply.
@@ -58,7 +59,11 @@ fn restart(b: Bench, first: u8, second: u8) -> Acted
     let before = b.chip;
     let chip = before.reset(first, second);
     Acted {
-        bench: Bench { chip, lent: b.lent },
+        bench: Bench {
+            chip,
+            lent: b.lent,
+            ended: b.ended,
+        },
         reply: Reply::Number(0),
     }
 }
@@ -73,7 +78,11 @@ fn output(b: Bench, port: u16, v: u8) -> Acted
     let answer = w.answer;
     let n = chip::access::number(answer);
     Acted {
-        bench: Bench { chip, lent: b.lent },
+        bench: Bench {
+            chip,
+            lent: b.lent,
+            ended: b.ended,
+        },
         reply: Reply::Number(n),
     }
 }
@@ -88,7 +97,11 @@ fn input(b: Bench, port: u16) -> Acted
     let answer = s.answer;
     let n = chip::access::number(answer);
     Acted {
-        bench: Bench { chip, lent: b.lent },
+        bench: Bench {
+            chip,
+            lent: b.lent,
+            ended: b.ended,
+        },
         reply: Reply::Byte(n, s.value),
     }
 }
@@ -125,7 +138,11 @@ fn lend(b: Bench, store: &mut [u8], n: usize) -> Acted
     clear(store, n);
     let chip = b.chip;
     Acted {
-        bench: Bench { chip, lent: n },
+        bench: Bench {
+            chip,
+            lent: n,
+            ended: b.ended,
+        },
         reply: Reply::Number(0),
     }
 }
@@ -175,6 +192,21 @@ fn carry(lent: usize, store: &mut [u8], t: Transfer) -> u8
     memory::answer_number(a)
 }
 
+// The end: no line behind it is answered.
+fn close(b: Bench) -> Acted
+    ensures { λ r. ⌜ r ≡ replied (withEnd b) Reply.Nothing ⌝ }
+{
+    let chip = b.chip;
+    Acted {
+        bench: Bench {
+            chip,
+            lent: b.lent,
+            ended: true,
+        },
+        reply: Reply::Nothing,
+    }
+}
+
 // A request carried out.
 pub fn act(b: Bench, store: &mut [u8], r: Request) -> Acted
     ensures { λ x. ⌜ x ≡ acted b (now (store .entry)) r ⌝ }
@@ -204,6 +236,15 @@ pub fn act(b: Bench, store: &mut [u8], r: Request) -> Acted
         Request::Dump => Acted {
             bench: b,
             reply: Reply::Registers,
+        },
+        Request::Help => Acted {
+            bench: b,
+            reply: Reply::Requests,
+        },
+        Request::Quit => close(b),
+        Request::Pass => Acted {
+            bench: b,
+            reply: Reply::Nothing,
         },
         Request::Unknown => Acted {
             bench: b,

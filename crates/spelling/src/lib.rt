@@ -1,5 +1,5 @@
-// A step as a line of text, for those who write scripts by hand: written, and read. The definitions are specs/Written and
-// specs/Reading; that a written step reads back as itself is proofs/ReadBack.
+// A step as a line of text, for those who write scripts by hand: written, and read; and a register's name alone. The
+// definitions are specs/Written and specs/Reading; that a written step reads back as itself is proofs/ReadBack.
 ghost use mathlib.Core.Path.{_≡_};
 ghost use Prim.Native.Nat.{_+_, _≤_};
 ghost use lib.ListN.{length};
@@ -268,4 +268,18 @@ pub fn add_step(out: &mut [u8], at: usize, step: Step) -> usize
     }
     let end = put_step(out, at, step);
     put(out, end, b"\n")
+}
+
+// A register's name behind what stands in an output that has room for the longest, 7 bytes; where the next byte goes.
+pub fn add_name(out: &mut [u8], at: usize, group: u8, index: u8) -> usize
+    ensures { λ r. ⌜ r ≡ behindIn 7 (now (out .entry)) at (nameText group index) ⌝ }
+    ensures { λ r. ⌜ now (out .exit) ≡ withAddedIn 7 (now (out .entry)) at (nameText group index) ⌝ }
+{
+    if out.len() < 7 {
+        return at;
+    }
+    if out.len() - 7 < at {
+        return at;
+    }
+    put_name(out, at, group, index)
 }

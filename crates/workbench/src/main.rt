@@ -1,22 +1,29 @@
-// Answers requests to a chip that it reads from standard input, one a line: the replies go to standard output, in the order of the
-// lines. It begins after a reset with pin bytes FFh, and with 2,097,152 bytes of memory, all of them 0. What a line asks for
-// is the crate requests', what it does the crate session's, and the text of a reply the crate replies'. Replies are printed
-// where a piece of input ends, and where their text leaves no room for another. A last line needs no line feed.
+// Answers requests to a chip that it reads from standard input, one a line: the replies go to standard output, in the order
+// of the lines. It begins after a reset with pin bytes FFh, and with 2,097,152 bytes of memory, all of them 0. What a line
+// asks for is the crate requests', what it does the crate session's, and the text of a reply the crate replies'. Replies
+// are printed where a piece of input ends, and where their text leaves no room for another. A last line needs no line feed.
+// It ends where the input does, or where the end is asked for.
 ghost use Prim.Native.Nat.{_<_, _≤_};
 ghost use lib.ListN.{length};
 use chip::Chip;
 use libc::STDIN_FILENO;
-use libc::STDOUT_FILENO;
 use session::Bench;
 use session::desk::Desk;
 use session::desk::Fed;
 use session::desk::feed;
 use session::shorter_of;
+use streams::print;
+use streams::say_unread;
 
 // The desk after a piece of input, and whether there may be more.
 struct After {
     more: bool,
     desk: Desk,
+}
+
+// Replies to standard output.
+fn say(text: &[u8]) {
+    print(b"workbench", text);
 }
 
 // Bytes of input from a place on, as many as there is room for replies; the replies are printed.
@@ -39,7 +46,7 @@ fn part(
     };
     let f = feed(begun, store, line, out, bytes, from);
     let n = shorter_of(f.desk.next, out.len());
-    io::write_all(STDOUT_FILENO, &out[..n]);
+    say(&out[..n]);
     f
 }
 
@@ -63,6 +70,9 @@ fn turn(d: Desk, store: &mut [u8], line: &mut [u8], out: &mut [u8], buf: &mut [u
     requires { ⌜ 8192 ≤ length (now out) ⌝ }
 {
     let got = libc::read(STDIN_FILENO, buf);
+    if got < 0 {
+        say_unread(b"workbench");
+    }
     let n = io::count(got, buf);
     if n == 0 {
         return After {
@@ -71,7 +81,10 @@ fn turn(d: Desk, store: &mut [u8], line: &mut [u8], out: &mut [u8], buf: &mut [u
         };
     }
     let desk = piece(d, store, line, out, &buf[..n]);
-    After { more: true, desk }
+    After {
+        more: !desk.bench.ended,
+        desk,
+    }
 }
 
 // All of the input; turns run out after 2^64 reads.
@@ -111,6 +124,7 @@ fn work(store: &mut [u8], line: &mut [u8], out: &mut [u8], buf: &mut [u8]) {
     let bench = Bench {
         chip,
         lent: store.len(),
+        ended: false,
     };
     let begun = Desk {
         bench,

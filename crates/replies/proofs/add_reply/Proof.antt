@@ -2,7 +2,7 @@
 use borrow.Author.Needs.{needs}
 use native.Mathlib.Omega.{arith}
 use mathlib.Core.List.{append-assoc}
-use Rattle.text.proofs.Adding.{added-append}
+use Rattle.text.proofs.Adding.{added-none, added-append}
 use Rattle.replies.specs.Reply.{replyText}
 use Rattle.replies.proofs.add_reply.Statement.{statement}
 use Rattle.replies.proofs.add_reply.Tie as tie
@@ -41,6 +41,10 @@ add-reply-spec =
     (λ c. search needs)
     (λ c κs. search needs)
     (λ c. search needs)
+    (λ c. search needs)
+    (λ c. search needs)
+    (λ c κs. search needs)
+    (λ c. search needs)
     (λ c. rw (c .before .before .before .before .before .before .before .before .before .before .reply .given .1) (added-append (c .before .before .before .before .before .before .before .add-number .ensures .0) (c .before .before .add .ensures) (omega (arith, c .before .before .before .before .before .before .before .add-number .ensures .1, c .before .before .add .ensures .next, c .before .before .before .before .before .before .before .before .before .before .before .before .before .pre))))
     (λ c. search needs)
     (λ c. rw (c .before .before .before .before .before .before .before .before .before .before .before .before .reply2 .given .1, append-assoc)
@@ -50,4 +54,7 @@ add-reply-spec =
     (λ c. search needs)
     (λ c. rw (c .before .before .before .before .enum-told .given .1) (c .before .before .add-registers .ensures))
     (λ c. search needs)
-    (λ c. rw (c .before .before .before .before .before .enum-told2 .given .1) (c .before .before .add4 .ensures)))
+    (λ c. rw (c .before .before .before .before .before .enum-told2 .given .1) (c .before .before .add4 .ensures))
+    (λ c. rw (c .enum-told3 .given .1) (added-none _ _))
+    (λ c. search needs)
+    (λ c. rw (c .before .before .before .before .before .enum-told4 .given .1) (c .before .before .add5 .ensures)))
