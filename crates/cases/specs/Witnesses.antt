@@ -1,10 +1,10 @@
 -- The witnesses of must-fail edits, computed: for an edit of a rule of the chip, the steps or memory the input that its file names, with
 -- what the right version gives; the edited text gives something else there. A row has the edit's name above it, as CRATE/EDIT.
-use mathlib.Core.Bool.{true, false}
+use mathlib.Core.Bool.{false}
 use mathlib.Core.List.{List, [], _∷_}
-use Rattle.registers.specs.declared.Group.the-variants.{Cr, Sr, Xr, Ar}
+use Rattle.registers.specs.declared.Group.the-variants.{Xr}
 use Rattle.steps.specs.declared.Step.the-variants.{Set, Field, Colour}
-use Rattle.cases.specs.Cases.{Row, gets, reads, is, colour, shows, chip, raster-byte, moves, commands, answers}
+use Rattle.cases.specs.Cases.{Row, gets, reads, is, shows, chip, raster-byte, moves, commands, answers}
 use Rattle.cases.specs.Starred.{oneLine}
 
 unfoldable pub witnesses : List Row
@@ -15,24 +15,17 @@ witnesses =
     ∷ chip 0xFF 0xFF (gets 0x3B4 0x11 ∷ gets 0x3B5 0x80 ∷ gets 0x3B4 0x07 ∷ gets 0x3B5 0xFF ∷ reads 0x3B5 0x10 ∷ [])
     -- registers/CR11_locks_all_of_CR: 00h
     ∷ chip 0xFF 0xFF (gets 0x3B4 0x11 ∷ gets 0x3B5 0x80 ∷ gets 0x3B4 0x0C ∷ gets 0x3B5 0xFF ∷ reads 0x3B5 0xFF ∷ [])
-    -- registers/AR00_written_under_bit_5: 3Fh
-    ∷ chip 0xFF 0xFF (gets 0x3C0 0x20 ∷ gets 0x3C0 0x3F ∷ is Ar 0x00 0x00 ∷ [])
     -- registers/SR_index_kept_at_eight_bits: 0Ah
     ∷ chip 0xFF 0xFF (gets 0x3C4 0x0A ∷ reads 0x3C4 0x02 ∷ [])
     -- ports/pair_not_picked_answers: 55h; ports/index_read_where_not_picked: 0Ah at 3B4h
     ∷ chip 0xFF 0xFF (gets 0x3C2 0x01 ∷ gets 0x3D4 0x0A ∷ gets 0x3B4 0x55 ∷ reads 0x3D4 0x0A ∷ reads 0x3B4 0xFF ∷ [])
     -- chip/another_groups_index: XR60 43h
     ∷ chip 0xFF 0xFF (gets 0x3C2 0x01 ∷ gets 0x3D6 0x61 ∷ gets 0x3D4 0x60 ∷ gets 0x3D7 0x43 ∷ is Xr 0x60 0x00 ∷ is Xr 0x61 0x43 ∷ [])
-    -- chip/mode_taken_at_red: red 3Fh
-    ∷ chip 0xFF 0xFF
-    (gets 0x3C8 0x00 ∷ gets 0x3C9 0xFF ∷ gets 0x3D6 0x80 ∷ gets 0x3D7 0x80 ∷ gets 0x3C9 0x00 ∷ gets 0x3C9 0x00 ∷ colour 0 0xFF 0x00 0x00 ∷ [])
     -- chip/reads_give_one_value: 2Ch
     ∷ chip 0xFF 0xFF (gets 0x3D6 0x70 ∷ reads 0x3D7 0xFF ∷ [])
     -- chip/PALMASK_ORed: the colour of entry FFh
     ∷ chip 0xFF 0xFF
     (gets 0x3C6 0xF0 ∷ gets 0x3C8 0xFF ∷ gets 0x3C9 0x3F ∷ gets 0x3C9 0x3F ∷ gets 0x3C9 0x3F ∷ shows 0x0F 0 0 0 ∷ [])
-    -- state/green_held_as_red: (2, 0, 3)
-    ∷ chip 0xFF 0xFF (gets 0x3C8 0x00 ∷ gets 0x3C9 1 ∷ gets 0x3C9 2 ∷ gets 0x3C9 3 ∷ colour 0 1 2 3 ∷ [])
     -- state/turn_not_returned: 10h
     ∷ chip 0xFF 0xFF (gets 0x3C2 0x01 ∷ gets 0x3C0 0x10 ∷ reads 0x3DA 0x00 ∷ gets 0x3C0 0x11 ∷ reads 0x3C0 0x11 ∷ [])
     -- steps/AR15_named and steps/eleven_before_seven: 11; steps/MSR_with_index: a block; steps/SR0A_accepted: a block; steps/XR70_accepted: a block;
@@ -54,7 +47,6 @@ witnesses =
     ∷ raster-byte 0xF0 0xCC 0xAA 0xB8 0xB8
     ∷ raster-byte 0xFF 0xFF 0x00 0x40 0xFF
     ∷ raster-byte 0x00 0xFF 0xFF 0x66 0x00
-    -- blit/smear_taken_for_a_move: 1, 1, 2, 3, 4; blit/direction_ignored: 1, 1, 1, 1, 1
+    -- blit/smear_taken_for_a_move: 1, 1, 2, 3, 4
     ∷ moves (1 ∷ 2 ∷ 3 ∷ 4 ∷ 5 ∷ []) (oneLine 0xCC false 4 0 1) (1 ∷ 1 ∷ 1 ∷ 1 ∷ 1 ∷ [])
-    ∷ moves (1 ∷ 2 ∷ 3 ∷ 4 ∷ 5 ∷ []) (oneLine 0xCC true 4 3 4) (1 ∷ 1 ∷ 2 ∷ 3 ∷ 4 ∷ [])
     ∷ []

@@ -1,6 +1,7 @@
 // Standard input read whole and standard output written whole, with a failure told: for programs that read a file and print
 // an answer. What a program says then is one line on standard error, `NAME: cannot read standard input` or `NAME: cannot
-// write standard output`.
+// write standard output`. No contract can say what is read or written; what is lent to be written stays as it is.
+ghost use mathlib.Core.Path.{_≡_};
 ghost use Prim.Native.Nat.{_+_, _-_, _≤_};
 ghost use lib.ListN.{length};
 ghost use Rattle.streams.specs.Got.{Within};
@@ -44,13 +45,18 @@ pub fn read_input(buf: &mut [u8]) -> Got
 }
 
 // What a program of this name says where its input cannot be read.
-pub fn say_unread(name: &[u8]) {
+pub fn say_unread(name: &[u8])
+    ensures { λ _. ⌜ now (name .exit) ≡ now (name .entry) ⌝ }
+{
     io::write_all(STDERR_FILENO, name);
     io::write_all(STDERR_FILENO, b": cannot read standard input\n");
 }
 
 // Bytes to standard output, by a program of this name.
-pub fn print(name: &[u8], bytes: &[u8]) {
+pub fn print(name: &[u8], bytes: &[u8])
+    ensures { λ _. ⌜ now (name .exit) ≡ now (name .entry) ⌝ }
+    ensures { λ _. ⌜ now (bytes .exit) ≡ now (bytes .entry) ⌝ }
+{
     if io::write_all(STDOUT_FILENO, bytes) {
         return;
     }
