@@ -1,19 +1,19 @@
 // Plays a script file that it reads from standard input on a chip after a reset with pin bytes FFh and FFh, and prints what
 // then differs from the reset: a line a register and a line a colour, and at the end the number of commands. The text is
-// the crate played_text's. A file is at most twelve blocks, 6,144 bytes; one byte more is read, so that a longer file is
+// the crate text_played's. A file is at most twelve blocks, 6,144 bytes; one byte more is read, so that a longer file is
 // seen to be longer and is refused, not cut. What is wrong with a file goes to standard error, in one line, and nothing is
 // printed.
 ghost use mathlib.Core.Path.{_≡_};
 ghost use lib.ListN.{length};
-use complaints::complain;
 use libc::STDERR_FILENO;
-use played_text::Told;
-use played_text::tell;
 use script::Refusal;
 use streams::Got;
 use streams::print;
 use streams::read_input;
 use streams::say_unread;
+use text_played::Told;
+use text_played::tell;
+use text_refusals::complain;
 
 // Room for the commands of 1,008 steps, 32 bytes a step.
 fn commands_buffer() -> [u8; 32256]

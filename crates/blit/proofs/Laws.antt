@@ -13,8 +13,8 @@ use lib.Seq.{getD-set-same, getD-set-other, set-getD}
 use borrow.Author.Tests.{ltb-true}
 use Rattle.lists.specs.Scan.{every}
 use Rattle.lists.proofs.Tests.{and-both}
-use Rattle.raster.specs.Raster.{raster, usesSource, usesPattern}
-use Rattle.raster.specs.Laws.{AAh-destination, CCh-source}
+use Rattle.blit_raster.specs.Raster.{raster, usesSource, usesPattern}
+use Rattle.blit_raster.specs.Laws.{AAh-destination, CCh-source}
 use Rattle.blit_frame.specs.declared.Area.{Area}
 use Rattle.blit_frame.specs.declared.Transfer.{Transfer}
 use Rattle.memory.specs.Memory.{lengthAllowed}

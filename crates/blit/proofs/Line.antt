@@ -10,7 +10,7 @@ use native.Mathlib.Numerals.{add-one}
 use native.Mathlib.Omega.{arith}
 use lib.Dec.{lit<}
 use lib.ListN.{length, getD}
-use Rattle.raster.specs.Raster.{raster}
+use Rattle.blit_raster.specs.Raster.{raster}
 use Rattle.blit.specs.Transfer.{inTurn}
 use Rattle.blit.specs.Working.{Part, becomes, SourceStill, PatternStill, lineByte}
 use Rattle.blit.proofs.Parts.{part-none, part-up, part-down, when}

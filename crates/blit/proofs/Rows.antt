@@ -9,7 +9,7 @@ use lib.Dec.{ltb}
 use lib.ListN.{getD}
 use borrow.Author.Tests.{ltb-true}
 use Rattle.lists.proofs.Tests.{and-both}
-use Rattle.raster.specs.Raster.{usesSource, usesPattern}
+use Rattle.blit_raster.specs.Raster.{usesSource, usesPattern}
 use Rattle.memory.specs.Memory.{lengthAllowed}
 use Rattle.memory.proofs.Laws.{allowed}
 use Rattle.blit_frame.specs.declared.Transfer.{Transfer}

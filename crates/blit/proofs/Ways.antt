@@ -9,8 +9,8 @@ use Prim.Native.Nat.{ℕ, _+_, _-_, _%_, _≤_, _<_}
 use native.Mathlib.Omega.{arith}
 use lib.ListN.{length, getD}
 use Rattle.lists.specs.Scan.{every}
-use Rattle.raster.specs.Raster.{raster, usesSource}
-use Rattle.raster.specs.Laws.{CCh-source, raster-no-source}
+use Rattle.blit_raster.specs.Raster.{raster, usesSource}
+use Rattle.blit_raster.specs.Laws.{CCh-source, raster-no-source}
 use Rattle.blit.specs.Transfer.{inTurn}
 use Rattle.blit.proofs.Turns.{in-turn-same, in-turn-more}
 use Rattle.blit_frame.specs.Lines.{byteAt}

@@ -1,10 +1,10 @@
 -- What a block transfer of document 01, "Video memory and block transfers", does to the memory, one byte at a time. Where its bytes lie
--- and when it is done is said in crate blit_frame; the raster code is the crate raster's.
+-- and when it is done is said in crate blit_frame; the raster code is the crate blit_raster's.
 use Prim.Native.Nat.{ℕ, zero, suc}
 use mathlib.Core.Bool.{cond}
 use mathlib.Core.List.{List}
 use lib.ListN.{length, getD, set}
-use Rattle.raster.specs.Raster.{raster, usesSource, usesPattern}
+use Rattle.blit_raster.specs.Raster.{raster, usesSource, usesPattern}
 use Rattle.blit_frame.specs.Frame.{place, patternPlace, accepted}
 use Rattle.blit_frame.specs.declared.Transfer.{Transfer}
 

@@ -5,7 +5,7 @@ use mathlib.Core.Logic.{_⊎_}
 use mathlib.Core.List.{List}
 use Prim.Native.Nat.{ℕ, _+_, _-_, _*_, _%_, _≤_, _<_}
 use lib.ListN.{length, getD, set}
-use Rattle.raster.specs.Raster.{raster, usesSource, usesPattern}
+use Rattle.blit_raster.specs.Raster.{raster, usesSource, usesPattern}
 use Rattle.blit_frame.specs.Frame.{patternLine}
 use Rattle.blit_frame.specs.Lines.{byteAt, lineLow}
 use Rattle.blit_frame.specs.declared.Transfer.{Transfer}

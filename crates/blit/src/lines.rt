@@ -8,7 +8,7 @@ ghost use mathlib.Core.Bool.{cond, true, false};
 ghost use Prim.Native.Nat.{ℕ, _+_, _-_, _*_, _%_, _^_, _<_, _≤_};
 ghost use mathlib.Core.Logic.{_⊎_};
 ghost use lib.ListN.{length, getD};
-ghost use Rattle.raster.specs.Raster.{usesSource, usesPattern};
+ghost use Rattle.blit_raster.specs.Raster.{usesSource, usesPattern};
 ghost use Rattle.blit_frame.specs.Frame.{accepted};
 ghost use Rattle.blit_frame.specs.Lines.{byteAt, lowOf, patternLow};
 ghost use Rattle.blit.specs.Transfer.{inTurn, linesDone};
@@ -57,7 +57,7 @@ fn one_by_one(
         let j = byte_at(left, s, w, c);
         let pb = fetch(mem, pattern, p + i % 8);
         let sb = fetch(mem, source, j);
-        mem[i] = raster::raster_byte(code, pb, sb, mem[i]);
+        mem[i] = blit_raster::raster_byte(code, pb, sb, mem[i]);
         c += 1;
     }
 }
@@ -95,7 +95,7 @@ fn blend_plain(mem: &mut [u8], code: u8, d: usize, s: usize, w: usize)
 {
     let mut c = 0;
     while c < w {
-        mem[d + c] = raster::raster_byte(code, 0, mem[s + c], mem[d + c]);
+        mem[d + c] = blit_raster::raster_byte(code, 0, mem[s + c], mem[d + c]);
         c += 1;
     }
 }
@@ -136,7 +136,7 @@ fn blend(mem: &mut [u8], pat: &[u8], code: u8, source: bool, d: usize, s: usize,
     let mut c = 0;
     while c < w {
         let sb = fetch(mem, source, s + c);
-        mem[d + c] = raster::raster_byte(code, pat[f + c], sb, mem[d + c]);
+        mem[d + c] = blit_raster::raster_byte(code, pat[f + c], sb, mem[d + c]);
         c += 1;
     }
 }
@@ -194,7 +194,7 @@ fn blend_taken(
     let mut c = 0;
     while c < w {
         let pb = fetch(pat, pattern, f + c);
-        mem[d + c] = raster::raster_byte(code, pb, src[c], mem[d + c]);
+        mem[d + c] = blit_raster::raster_byte(code, pb, src[c], mem[d + c]);
         c += 1;
     }
 }
@@ -442,8 +442,8 @@ fn all_lines(mem: &mut [u8], pat: &mut [u8], src: &mut [u8], t: Transfer)
     requires { ⌜ (t .width + 8 ≤ length (now pat)) × (16 ≤ length (now pat)) × (t .width ≤ length (now src)) ⌝ }
     ensures { λ r. ⌜ now (mem .exit) ≡ linesDone t (now (mem .entry)) ⌝ }
 {
-    let source = raster::uses_source(t.code);
-    let pattern = raster::uses_pattern(t.code);
+    let source = blit_raster::uses_source(t.code);
+    let pattern = blit_raster::uses_pattern(t.code);
     let h = t.height;
     let w = t.width;
     let mut r = 0;

@@ -11,7 +11,7 @@ use borrow.Author.Tests.{le-leb, lt-leb, lt-ltb, le-ltb, leb-true, leb-false, lt
 use Rattle.lists.specs.Scan.{every}
 use Rattle.lists.proofs.Scan.{every-all, every-false}
 use Rattle.lists.proofs.Tests.{and-both, both-and}
-use Rattle.raster.specs.Raster.{usesSource, usesPattern}
+use Rattle.blit_raster.specs.Raster.{usesSource, usesPattern}
 use Rattle.blit_frame.specs.declared.Area.{Area}
 use Rattle.blit_frame.specs.declared.Transfer.{Transfer}
 use Rattle.blit_frame.specs.Frame.{ahead, behind, place, within, everyByte, patternLine, patternPlace, inRange, inMemory}

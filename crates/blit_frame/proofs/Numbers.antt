@@ -10,7 +10,7 @@ use lib.Dec.{ltb}
 use borrow.Author.Tests.{ltb-false, le-ltb, eqb-false}
 use Rattle.lists.specs.Scan.{firstNot, every}
 use Rattle.lists.proofs.Scan.{first-le, end-first, first-fails, every-all, every-at, every-false}
-use Rattle.raster.specs.Raster.{usesSource, usesPattern}
+use Rattle.blit_raster.specs.Raster.{usesSource, usesPattern}
 use Rattle.blit_frame.specs.declared.Transfer.{Transfer}
 use Rattle.memory.specs.declared.Answer.the-variants.{Done, Refused}
 use Rattle.memory.specs.declared.Refusal.{Refusal}

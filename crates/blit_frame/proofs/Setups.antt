@@ -4,7 +4,7 @@ use Prim.Native.Nat.{ℕ}
 use mathlib.Core.Path.{_≡_, refl}
 use mathlib.Core.Bool.{Bool, true, false}
 use Rattle.lists.specs.Scan.{every}
-use Rattle.raster.specs.Raster.{usesSource, usesPattern}
+use Rattle.blit_raster.specs.Raster.{usesSource, usesPattern}
 use Rattle.blit_frame.specs.declared.Transfer.{Transfer}
 use Rattle.blit_frame.specs.Frame.{inRange, inMemory, judgedNumber}
 

@@ -1,11 +1,11 @@
 -- The places of a block transfer's bytes, and when it is done: document 01, "Video memory and block transfers", and 3, 5 and 4 of
--- "Numbers returned". What is done to the bytes is crate blit's; the raster code is the crate raster's.
+-- "Numbers returned". What is done to the bytes is crate blit's; the raster code is the crate blit_raster's.
 -- An address that runs below 0 stays a natural number: what is added to it and what is taken away are kept apart.
 use Prim.Native.Nat.{ℕ, _+_, _-_, _*_, _%_}
 use mathlib.Core.Bool.{Bool, cond, not, _&&_, _||_}
 use lib.Dec.{leb, ltb, eqb}
 use Rattle.lists.specs.Scan.{every}
-use Rattle.raster.specs.Raster.{usesSource, usesPattern}
+use Rattle.blit_raster.specs.Raster.{usesSource, usesPattern}
 use Rattle.memory.specs.Memory.{lengthAllowed}
 use Rattle.memory.specs.declared.Answer.{Answer}
 use Rattle.memory.specs.declared.Answer.the-variants.{Done, Refused}

@@ -3,7 +3,7 @@
 use mathlib.Core.Bool.{Bool, true, cond}
 use mathlib.Core.Path.{_≡_}
 use Prim.Native.Nat.{ℕ, _+_, _-_, _*_, _%_, _≤_, _<_}
-use Rattle.raster.specs.Raster.{usesSource}
+use Rattle.blit_raster.specs.Raster.{usesSource}
 use Rattle.blit_frame.specs.declared.Area.{Area}
 use Rattle.blit_frame.specs.declared.Transfer.{Transfer}
 

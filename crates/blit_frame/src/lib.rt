@@ -8,7 +8,7 @@ ghost use mathlib.Core.Path.{_≡_};
 ghost use mathlib.Core.Bool.{cond, true, false, not, _||_};
 ghost use Prim.Native.Nat.{ℕ, _+_, _-_, _*_, _%_, _^_, _<_, _≤_};
 ghost use lib.Dec.{ltb};
-ghost use Rattle.raster.specs.Raster.{usesSource};
+ghost use Rattle.blit_raster.specs.Raster.{usesSource};
 ghost use Rattle.memory.specs.Memory.{answerNumber};
 ghost use Rattle.blit_frame.specs.Frame.{inRange, inMemory, everyByte, within, patternPlace, judged, judgedNumber};
 ghost use Rattle.blit_frame.specs.Lines.{Ranges, Missing, moved, lowOf, patternLow};
@@ -111,8 +111,8 @@ fn in_range(t: Transfer) -> bool
         & (1 <= t.height)
         & (t.height <= 8191)
         & (t.destination.span <= 8191)
-        & (!raster::uses_source(t.code) | (t.source.span <= 8191))
-        & (!raster::uses_pattern(t.code) | ((t.row <= 7) & (t.pattern % 64 == 0)))
+        & (!blit_raster::uses_source(t.code) | (t.source.span <= 8191))
+        & (!blit_raster::uses_pattern(t.code) | ((t.row <= 7) & (t.pattern % 64 == 0)))
 }
 
 // Every byte of an area lies in memory: the first does, and the two outermost.
@@ -138,7 +138,7 @@ fn source_inside(n: usize, t: Transfer) -> bool
     requires { ⌜ n ≤ 2097152 ⌝ }
     ensures { λ r. ⌜ r ≡ (not (usesSource (t .code)) || everyByte t (within n t (t .source))) ⌝ }
 {
-    if !raster::uses_source(t.code) {
+    if !blit_raster::uses_source(t.code) {
         return true;
     }
     area_inside(n, t, t.source)
@@ -200,7 +200,7 @@ fn inside(n: usize, t: Transfer) -> bool
     if !source_inside(n, t) {
         return false;
     }
-    if !raster::uses_pattern(t.code) {
+    if !blit_raster::uses_pattern(t.code) {
         return true;
     }
     pattern_inside(n, t)

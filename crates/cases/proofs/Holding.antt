@@ -3,31 +3,31 @@
 use mathlib.Core.Bool.{true}
 use mathlib.Core.List.{[], _∷_}
 use mathlib.Core.Path.{_≡_, refl}
-use Rattle.registers.specs.CrtController.{CR}
-use Rattle.registers.specs.Attribute.{AR}
-use Rattle.registers.specs.Extension.{XR}
-use Rattle.registers.specs.Multimedia.{MR}
-use Rattle.registers.specs.Sequencer.{SR}
-use Rattle.registers.specs.Graphics.{GR}
-use Rattle.registers.specs.Groups.{groupAt, rowOf}
-use Rattle.registers.specs.Indexes.{indexKept, fits}
-use Rattle.registers.specs.WriteRule.{lockedBy, leftOpen, writableNow, written}
-use Rattle.ports.specs.Ports.{ports, target}
+use Rattle.chip_registers.specs.CrtController.{CR}
+use Rattle.chip_registers.specs.Attribute.{AR}
+use Rattle.chip_registers.specs.Extension.{XR}
+use Rattle.chip_registers.specs.Multimedia.{MR}
+use Rattle.chip_registers.specs.Sequencer.{SR}
+use Rattle.chip_registers.specs.Graphics.{GR}
+use Rattle.chip_registers.specs.Groups.{groupAt, rowOf}
+use Rattle.chip_registers.specs.Indexes.{indexKept, fits}
+use Rattle.chip_registers.specs.WriteRule.{lockedBy, leftOpen, writableNow, written}
+use Rattle.chip_ports.specs.Ports.{ports, target}
 use Rattle.chip.specs.Names.{locked, received, portsOpen, colour, eightBit}
 use Rattle.chip.specs.Palette.{coloured, loaded, shown}
 use Rattle.chip.specs.Access.{portWritten, portRead}
 use Rattle.chip.specs.Reset.{resetByte, filled, reset}
-use Rattle.raster.specs.Raster.{number, raster, usesSource, usesPattern}
+use Rattle.blit_raster.specs.Raster.{number, raster, usesSource, usesPattern}
 use Rattle.blit_frame.specs.Frame.{inRange, inMemory}
 use Rattle.blit.specs.Transfer.{byteDone, inTurn, lineDone, linesDone, transferred}
 use Rattle.lists.specs.Scan.{firstNot, every}
 use Rattle.lists.specs.Tab.{tab}
-use Rattle.steps.specs.Step.{names, legal, idle, judged, shaped, stepOf, bytesOf}
+use Rattle.script_steps.specs.Step.{names, legal, idle, judged, shaped, stepOf, bytesOf}
 use Rattle.script.specs.Block.{wordSum}
 use Rattle.script.specs.File.{stepsChecked}
-use Rattle.writer.specs.Write.{front, blocksTo, written as fileWritten}
-use Rattle.commands.specs.Command.{bytesOfAll}
-use Rattle.commands.specs.Expansion.{ways, expanded}
+use Rattle.script_writer.specs.Write.{front, blocksTo, written as fileWritten}
+use Rattle.script_commands.specs.Command.{bytesOfAll}
+use Rattle.script_commands.specs.Expansion.{ways, expanded}
 use Rattle.cases.specs.Cases.{numbers, rowsHold, allHold}
 use Rattle.cases.specs.Starred.{starred}
 use Rattle.cases.specs.Witnesses.{witnesses}

@@ -1,11 +1,11 @@
 -- What a case of a table of set-ups can say, and when it holds, over the definitions that the contracts cite. The tables are Starred,
--- document 01's, and in crate request_cases those of document 02's requests.
+-- document 01's, and in crate cases_requests those of document 02's requests.
 use Prim.Native.Nat.{ℕ, _-_}
 use mathlib.Core.Bool.{Bool, true, false, _&&_}
 use mathlib.Core.List.{List, [], _∷_, _++_}
 use lib.Dec.{eqb}
 use lib.ListN.{length, take, replicate}
-use Rattle.registers.specs.declared.Group.{Group}
+use Rattle.chip_registers.specs.declared.Group.{Group}
 use Rattle.chip.specs.State.{named}
 use Rattle.chip.specs.Names.{register}
 use Rattle.chip.specs.Palette.{entry, shown}
@@ -13,15 +13,15 @@ use Rattle.chip.specs.Access.{numberOf, portWritten, portRead}
 use Rattle.chip.specs.Reset.{reset}
 use Rattle.chip.specs.declared.Chip.{Chip}
 use Rattle.chip.specs.declared.Rgb.{Rgb}
-use Rattle.raster.specs.Raster.{raster}
+use Rattle.blit_raster.specs.Raster.{raster}
 use Rattle.blit.specs.Transfer.{transferred}
 use Rattle.blit_frame.specs.declared.Transfer.{Transfer}
-use Rattle.steps.specs.Step.{bytesOf as stepBytes}
-use Rattle.steps.specs.declared.Step.{Step}
+use Rattle.script_steps.specs.Step.{bytesOf as stepBytes}
+use Rattle.script_steps.specs.declared.Step.{Step}
 use Rattle.script.specs.Block.{word}
-use Rattle.writer.specs.Write.{fileOf, written, ofWritten}
-use Rattle.commands.specs.Command.{bytesOfAll}
-use Rattle.commands.specs.Expansion.{expanded}
+use Rattle.script_writer.specs.Write.{fileOf, written, ofWritten}
+use Rattle.script_commands.specs.Command.{bytesOfAll}
+use Rattle.script_commands.specs.Expansion.{expanded}
 
 -- ---- what a row can say
 

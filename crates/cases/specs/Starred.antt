@@ -3,9 +3,9 @@
 use Prim.Native.Nat.{ℕ}
 use mathlib.Core.Bool.{Bool, true, false}
 use mathlib.Core.List.{List, [], _∷_}
-use Rattle.registers.specs.declared.Group.the-variants.{Cr, Xr}
+use Rattle.chip_registers.specs.declared.Group.the-variants.{Cr, Xr}
 use Rattle.blit_frame.specs.declared.Transfer.{Transfer}
-use Rattle.steps.specs.declared.Step.the-variants.{Set, Field}
+use Rattle.script_steps.specs.declared.Step.the-variants.{Set, Field}
 use Rattle.cases.specs.Cases.{Case, case, gets, reads, is, colour, shows, chip, raster-byte, moves, commands, check}
 
 -- one line from a source to a destination, with no span and no pattern

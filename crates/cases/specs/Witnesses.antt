@@ -2,8 +2,8 @@
 -- what the right version gives; the edited text gives something else there. A row has the edit's name above it, as CRATE/EDIT.
 use mathlib.Core.Bool.{false}
 use mathlib.Core.List.{List, [], _∷_}
-use Rattle.registers.specs.declared.Group.the-variants.{Xr}
-use Rattle.steps.specs.declared.Step.the-variants.{Set, Field, Colour}
+use Rattle.chip_registers.specs.declared.Group.the-variants.{Xr}
+use Rattle.script_steps.specs.declared.Step.the-variants.{Set, Field, Colour}
 use Rattle.cases.specs.Cases.{Row, gets, reads, is, shows, chip, raster-byte, moves, commands, answers}
 use Rattle.cases.specs.Starred.{oneLine}
 

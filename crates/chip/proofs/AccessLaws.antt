@@ -11,13 +11,13 @@ use Rattle.lists.specs.Bits.{bit}
 use Rattle.lists.proofs.Bits.{zero-bit}
 use Rattle.lists.specs.Scan.{every}
 use Rattle.lists.proofs.Scan.{every-at}
-use Rattle.registers.proofs.WriteLaws.{CR00-to-CR06-locked, CR07-bit-4-open, AR00-to-AR0F-locked}
-use Rattle.registers.specs.WriteRule.{lockedBy}
-use Rattle.registers.specs.declared.Group.{Group}
-use Rattle.registers.specs.declared.Group.the-variants.{Cr, Ar}
-use Rattle.ports.specs.Ports.{target}
-use Rattle.ports.specs.declared.Target.{Target}
-use Rattle.ports.specs.declared.Target.the-variants.{Index, Data, ReadIndex, WriteIndex, Paldata, Attribute, Status, NotPicked, NotListed}
+use Rattle.chip_registers.proofs.WriteLaws.{CR00-to-CR06-locked, CR07-bit-4-open, AR00-to-AR0F-locked}
+use Rattle.chip_registers.specs.WriteRule.{lockedBy}
+use Rattle.chip_registers.specs.declared.Group.{Group}
+use Rattle.chip_registers.specs.declared.Group.the-variants.{Cr, Ar}
+use Rattle.chip_ports.specs.Ports.{target}
+use Rattle.chip_ports.specs.declared.Target.{Target}
+use Rattle.chip_ports.specs.declared.Target.the-variants.{Index, Data, ReadIndex, WriteIndex, Paldata, Attribute, Status, NotPicked, NotListed}
 use Rattle.chip.specs.State.{Named, named, withNamed, withLoading, withPicture, withTurn, indexOf}
 use Rattle.chip.specs.Names.{register, locked, writableAt, received, portsOpen, colour}
 use Rattle.chip.specs.Palette.{loaded, coloured, moved}

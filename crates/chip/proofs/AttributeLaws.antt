@@ -7,9 +7,9 @@ use borrow.Author.Tests.{eqb-true, eqb-false}
 use mathlib.Core.Bool.{Bool, true, false, cond}
 use mathlib.Core.Path.{_≡_, refl, ap, _∙_}
 use Rattle.lists.specs.Bits.{bit, isSet}
-use Rattle.registers.specs.Indexes.{indexKept}
-use Rattle.registers.specs.declared.Group.the-variants.{Ar}
-use Rattle.ports.specs.Ports.{ports, target}
+use Rattle.chip_registers.specs.Indexes.{indexKept}
+use Rattle.chip_registers.specs.declared.Group.the-variants.{Ar}
+use Rattle.chip_ports.specs.Ports.{ports, target}
 use Rattle.chip.specs.State.{named, join, withPicture, withTurn, indexOf, withIndex}
 use Rattle.chip.specs.Names.{register, received, portsOpen, colour}
 use Rattle.chip.specs.Attribute.{attributeIndex, attributeAimed, attributeSet, attributeWritten, turnReturned}

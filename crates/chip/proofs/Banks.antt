@@ -8,10 +8,10 @@ use mathlib.Core.Path.{_≡_, refl, sym, ap, _∙_}
 use mathlib.Core.List.{List, [], _∷_}
 use lib.ListN.{getD, set}
 use borrow.Author.Tests.{eqb-true, eq-eqb}
-use Rattle.registers.specs.Groups.{numberOf, groupAt, is, isIndexed}
-use Rattle.registers.proofs.TableLaws.{group-numbered}
-use Rattle.registers.specs.declared.Group.{Group}
-use Rattle.registers.specs.declared.Group.the-variants.{Cr, Sr, Gr, Xr, Fr, Mr, Msr, Palmask, Ar}
+use Rattle.chip_registers.specs.Groups.{numberOf, groupAt, is, isIndexed}
+use Rattle.chip_registers.proofs.TableLaws.{group-numbered}
+use Rattle.chip_registers.specs.declared.Group.{Group}
+use Rattle.chip_registers.specs.declared.Group.the-variants.{Cr, Sr, Gr, Xr, Fr, Mr, Msr, Palmask, Ar}
 use Rattle.chip.specs.State.{Named, sameRegisters}
 use Rattle.chip.specs.Names.{register, replaced}
 use Rattle.chip.specs.declared.Rgb.{Rgb}

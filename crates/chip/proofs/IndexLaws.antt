@@ -9,14 +9,14 @@ use mathlib.Core.Path.{_≡_, refl, sym, ap, _∙_}
 use lib.Dec.{eqb}
 use borrow.Author.Tests.{ne-eqb}
 use Rattle.lists.specs.Bits.{isSet}
-use Rattle.registers.specs.Groups.{numberOf, is, rowOf}
-use Rattle.registers.specs.Indexes.{indexKept}
-use Rattle.registers.specs.WriteRule.{lockedBy, writableNow}
-use Rattle.registers.proofs.IndexLaws.{kept-again}
-use Rattle.registers.specs.declared.Group.{Group}
-use Rattle.registers.specs.declared.Group.the-variants.{Cr, Sr, Gr, Xr, Fr, Mr, Msr, Palmask, Ar}
-use Rattle.ports.specs.Ports.{ports, target}
-use Rattle.ports.specs.declared.Target.the-variants.{Index, Data}
+use Rattle.chip_registers.specs.Groups.{numberOf, is, rowOf}
+use Rattle.chip_registers.specs.Indexes.{indexKept}
+use Rattle.chip_registers.specs.WriteRule.{lockedBy, writableNow}
+use Rattle.chip_registers.proofs.IndexLaws.{kept-again}
+use Rattle.chip_registers.specs.declared.Group.{Group}
+use Rattle.chip_registers.specs.declared.Group.the-variants.{Cr, Sr, Gr, Xr, Fr, Mr, Msr, Palmask, Ar}
+use Rattle.chip_ports.specs.Ports.{ports, target}
+use Rattle.chip_ports.specs.declared.Target.the-variants.{Index, Data}
 use Rattle.chip.specs.State.{Named, named, join, withNamed, withIndexes, withTurn, indexByte, withIndexByte, indexOf, withIndex}
 use Rattle.chip.specs.Names.{locked, received, portsOpen, colour}
 use Rattle.chip.specs.Access.{portWritten, portRead, wrote, seen}

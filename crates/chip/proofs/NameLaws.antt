@@ -9,11 +9,11 @@ use lib.Seq.{getD-set-same, getD-set-other}
 use borrow.Author.Tests.{eqb-true, eqb-false}
 use lib.Dec.{eqb}
 use Rattle.lists.specs.Bits.{bit, isSet}
-use Rattle.registers.specs.Groups.{numberOf, is, rowOf}
-use Rattle.registers.specs.WriteRule.{leftOpen, writableNow, written}
-use Rattle.registers.proofs.WriteLaws.{bit-written, written-byte, byte-now}
-use Rattle.registers.specs.declared.Group.{Group}
-use Rattle.registers.specs.declared.Group.the-variants.{Cr, Sr, Gr, Xr, Fr, Mr, Msr, Palmask, Ar}
+use Rattle.chip_registers.specs.Groups.{numberOf, is, rowOf}
+use Rattle.chip_registers.specs.WriteRule.{leftOpen, writableNow, written}
+use Rattle.chip_registers.proofs.WriteLaws.{bit-written, written-byte, byte-now}
+use Rattle.chip_registers.specs.declared.Group.{Group}
+use Rattle.chip_registers.specs.declared.Group.the-variants.{Cr, Sr, Gr, Xr, Fr, Mr, Msr, Palmask, Ar}
 use Rattle.chip.specs.State.{Named, sameRegisters, withPicture}
 use Rattle.chip.specs.Names.{register, replaced, locked, writableAt, received}
 use Rattle.chip.specs.Palette.{coloured}

@@ -5,11 +5,11 @@ use native.Mathlib.Omega.{arith}
 use mathlib.Core.Bool.{Bool, true, false, cond}
 use mathlib.Core.Path.{_≡_, refl, ap, _∙_}
 use mathlib.Core.Logic.{_↔_}
-use Rattle.registers.proofs.Stretches.{has}
-use Rattle.ports.specs.Ports.{ports, target, isListed}
-use Rattle.ports.proofs.PortLaws.{listedPorts, listed-exactly}
-use Rattle.ports.specs.declared.Target.{Target}
-use Rattle.ports.specs.declared.Target.the-variants.{Index, Data, ReadIndex, WriteIndex, Paldata, Attribute, Status, NotPicked, NotListed}
+use Rattle.chip_registers.proofs.Stretches.{has}
+use Rattle.chip_ports.specs.Ports.{ports, target, isListed}
+use Rattle.chip_ports.proofs.PortLaws.{listedPorts, listed-exactly}
+use Rattle.chip_ports.specs.declared.Target.{Target}
+use Rattle.chip_ports.specs.declared.Target.the-variants.{Index, Data, ReadIndex, WriteIndex, Paldata, Attribute, Status, NotPicked, NotListed}
 use Rattle.chip.specs.State.{named}
 use Rattle.chip.specs.Names.{portsOpen, colour}
 use Rattle.chip.specs.Access.{numberOf, accessNumber, writeTo, readFrom, portWritten, portRead, wrote, seen}

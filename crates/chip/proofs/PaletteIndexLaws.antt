@@ -9,11 +9,11 @@ use mathlib.Core.List.{List, [], _∷_}
 use lib.Dec.{eqb}
 use borrow.Author.Tests.{ne-eqb}
 use Rattle.lists.specs.Bits.{isSet}
-use Rattle.registers.proofs.Stretches.{has}
-use Rattle.ports.specs.Ports.{ports, target}
-use Rattle.ports.specs.declared.Target.{Target}
-use Rattle.ports.specs.declared.Target.the-variants.{Index, Data, ReadIndex, WriteIndex, Paldata, Attribute, Status, NotPicked, NotListed}
-use Rattle.ports.proofs.PortLaws.{holds, target-elsewhere}
+use Rattle.chip_registers.proofs.Stretches.{has}
+use Rattle.chip_ports.specs.Ports.{ports, target}
+use Rattle.chip_ports.specs.declared.Target.{Target}
+use Rattle.chip_ports.specs.declared.Target.the-variants.{Index, Data, ReadIndex, WriteIndex, Paldata, Attribute, Status, NotPicked, NotListed}
+use Rattle.chip_ports.proofs.PortLaws.{holds, target-elsewhere}
 use Rattle.chip.specs.State.{named, withLoading}
 use Rattle.chip.specs.Names.{portsOpen, colour}
 use Rattle.chip.specs.Palette.{coloured, aimed, held, moved, palstate}

@@ -10,12 +10,12 @@ use borrow.Author.Tests.{ne-eqb}
 use lib.ListN.{length}
 use lib.Seq.{getD-set-same, getD-set-other}
 use Rattle.lists.specs.Bits.{isSet}
-use Rattle.registers.specs.Extension.{XR}
-use Rattle.registers.specs.Groups.{rowOf}
-use Rattle.registers.specs.WriteRule.{lockedBy, writableNow}
-use Rattle.registers.specs.Indexes.{indexKept}
-use Rattle.registers.specs.declared.Group.the-variants.{Xr}
-use Rattle.ports.specs.Ports.{ports, target}
+use Rattle.chip_registers.specs.Extension.{XR}
+use Rattle.chip_registers.specs.Groups.{rowOf}
+use Rattle.chip_registers.specs.WriteRule.{lockedBy, writableNow}
+use Rattle.chip_registers.specs.Indexes.{indexKept}
+use Rattle.chip_registers.specs.declared.Group.the-variants.{Xr}
+use Rattle.chip_ports.specs.Ports.{ports, target}
 use Rattle.chip.specs.State.{Named, named, join, withIndex, withLoading}
 use Rattle.chip.specs.Names.{locked, received, portsOpen, eightBit}
 use Rattle.chip.specs.Palette.{rgb, byMode, entry, coloured, aimed, held, moved, loaded, paldata}

@@ -9,13 +9,13 @@ use lib.Dec.{eqb}
 use lib.Bits.{bitAnd, or-zero-r, and-mask}
 use Rattle.lists.specs.Bits.{bit, isSet}
 use Rattle.lists.proofs.Bits.{zero-bit, bit-and, bit-or}
-use Rattle.registers.specs.Extension.{XR}
-use Rattle.registers.specs.Groups.{rowOf, writableOf}
-use Rattle.registers.specs.WriteRule.{lockedBy}
-use Rattle.registers.proofs.WriteLaws.{locked-fewer, same-bits, CR00-to-CR06-locked, AR00-to-AR0F-locked}
-use Rattle.registers.specs.declared.Row.the-variants.{Unlisted}
-use Rattle.registers.specs.declared.Group.{Group}
-use Rattle.registers.specs.declared.Group.the-variants.{Cr, Xr, Ar}
+use Rattle.chip_registers.specs.Extension.{XR}
+use Rattle.chip_registers.specs.Groups.{rowOf, writableOf}
+use Rattle.chip_registers.specs.WriteRule.{lockedBy}
+use Rattle.chip_registers.proofs.WriteLaws.{locked-fewer, same-bits, CR00-to-CR06-locked, AR00-to-AR0F-locked}
+use Rattle.chip_registers.specs.declared.Row.the-variants.{Unlisted}
+use Rattle.chip_registers.specs.declared.Group.{Group}
+use Rattle.chip_registers.specs.declared.Group.the-variants.{Cr, Xr, Ar}
 use Rattle.chip.specs.State.{Named, named}
 use Rattle.chip.specs.Names.{register, locked, writableAt, portsOpen}
 use Rattle.chip.specs.Access.{portWritten}

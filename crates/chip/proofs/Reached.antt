@@ -4,8 +4,8 @@ use Prim.Native.Nat.{ℕ}
 use mathlib.Core.Bool.{Bool, true, false, not}
 use mathlib.Core.Path.{_≡_}
 use borrow.Author.Tests.{not-true, not-false}
-use Rattle.ports.specs.Ports.{target}
-use Rattle.ports.specs.declared.Target.{Target}
+use Rattle.chip_ports.specs.Ports.{target}
+use Rattle.chip_ports.specs.declared.Target.{Target}
 use Rattle.chip.specs.State.{named}
 use Rattle.chip.specs.Names.{portsOpen, colour}
 use Rattle.chip.specs.Access.{portWritten, portRead, writeTo, readFrom, wrote, seen}

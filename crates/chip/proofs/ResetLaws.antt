@@ -11,13 +11,13 @@ use lib.ListN.{getD, length, length-append, getD-replicate, List·getD-append, L
 use lib.Seq.{getD-at}
 use lib.Bits.{bitAnd, bitOr, and-le-l, or-lt}
 use borrow.Author.Tests.{eqb-true, eqb-false, ltb-true, ltb-false}
-use Rattle.registers.specs.Extension.{XR}
-use Rattle.registers.specs.Groups.{is, rowOf, resetOf}
-use Rattle.registers.proofs.TableLaws.{byte-rows}
-use Rattle.registers.specs.declared.Row.{Row}
-use Rattle.registers.specs.declared.Row.the-variants.{Listed, Unlisted}
-use Rattle.registers.specs.declared.Group.{Group}
-use Rattle.registers.specs.declared.Group.the-variants.{Cr, Sr, Gr, Xr, Fr, Mr, Msr, Palmask, Ar}
+use Rattle.chip_registers.specs.Extension.{XR}
+use Rattle.chip_registers.specs.Groups.{is, rowOf, resetOf}
+use Rattle.chip_registers.proofs.TableLaws.{byte-rows}
+use Rattle.chip_registers.specs.declared.Row.{Row}
+use Rattle.chip_registers.specs.declared.Row.the-variants.{Listed, Unlisted}
+use Rattle.chip_registers.specs.declared.Group.{Group}
+use Rattle.chip_registers.specs.declared.Group.the-variants.{Cr, Sr, Gr, Xr, Fr, Mr, Msr, Palmask, Ar}
 use Rattle.chip.specs.State.{named, indexByte}
 use Rattle.chip.specs.Names.{register}
 use Rattle.chip.specs.Palette.{rgb, entry}

@@ -9,8 +9,8 @@ use mathlib.Core.Path.{_≡_, refl, sym, _∙_}
 use lib.Bits.{bitAnd, and-le-l}
 use Rattle.lists.specs.Bits.{bit}
 use Rattle.lists.proofs.Bits.{bit-and}
-use Rattle.registers.proofs.WriteLaws.{same-bits}
-use Rattle.registers.specs.declared.Group.the-variants.{Palmask}
+use Rattle.chip_registers.proofs.WriteLaws.{same-bits}
+use Rattle.chip_registers.specs.declared.Group.the-variants.{Palmask}
 use Rattle.chip.specs.State.{Named}
 use Rattle.chip.specs.Names.{register, eightBit}
 use Rattle.chip.specs.Palette.{rgb, entry, shown}

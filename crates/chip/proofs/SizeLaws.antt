@@ -11,17 +11,17 @@ use lib.Dec.{eqb}
 use borrow.Author.Tests.{eqb-true}
 use lib.ListN.{length, set, length-set, length-replicate}
 use Rattle.lists.specs.Bits.{bit, isSet}
-use Rattle.registers.specs.CrtController.{CR}
-use Rattle.registers.specs.Groups.{groupAt, is, rowOf}
-use Rattle.registers.specs.Indexes.{fits}
-use Rattle.registers.specs.WriteRule.{leftOpen, writableNow, written}
-use Rattle.registers.proofs.IndexLaws.{kept-fits, fits-kept, kept-byte}
-use Rattle.registers.proofs.TableLaws.{group-numbered}
-use Rattle.registers.specs.declared.Group.{Group}
-use Rattle.registers.specs.declared.Group.the-variants.{Cr, Sr, Gr, Xr, Fr, Mr, Msr, Palmask, Ar}
-use Rattle.ports.specs.Ports.{target}
-use Rattle.ports.specs.declared.Target.{Target}
-use Rattle.ports.specs.declared.Target.the-variants.{Index, Data, ReadIndex, WriteIndex, Paldata, Attribute, Status, NotPicked, NotListed}
+use Rattle.chip_registers.specs.CrtController.{CR}
+use Rattle.chip_registers.specs.Groups.{groupAt, is, rowOf}
+use Rattle.chip_registers.specs.Indexes.{fits}
+use Rattle.chip_registers.specs.WriteRule.{leftOpen, writableNow, written}
+use Rattle.chip_registers.proofs.IndexLaws.{kept-fits, fits-kept, kept-byte}
+use Rattle.chip_registers.proofs.TableLaws.{group-numbered}
+use Rattle.chip_registers.specs.declared.Group.{Group}
+use Rattle.chip_registers.specs.declared.Group.the-variants.{Cr, Sr, Gr, Xr, Fr, Mr, Msr, Palmask, Ar}
+use Rattle.chip_ports.specs.Ports.{target}
+use Rattle.chip_ports.specs.declared.Target.{Target}
+use Rattle.chip_ports.specs.declared.Target.the-variants.{Index, Data, ReadIndex, WriteIndex, Paldata, Attribute, Status, NotPicked, NotListed}
 use Rattle.chip.specs.State.{Named, named, indexByte, indexOf, withIndex}
 use Rattle.chip.specs.Names.{register, received, locked, writableAt, portsOpen, colour, eightBit}
 use Rattle.chip.specs.Palette.{rgb, byMode, entry, coloured, held, moved}

@@ -3,9 +3,9 @@
 -- attribute registers are document 02's, P1.
 use Prim.Native.Nat.{ℕ}
 use mathlib.Core.Bool.{Bool, true, false, cond}
-use Rattle.ports.specs.Ports.{target, isListed}
-use Rattle.ports.specs.declared.Target.{Target}
-use Rattle.ports.specs.declared.Target.the-variants.{Index, Data, ReadIndex, WriteIndex, Paldata, Attribute, Status, NotPicked, NotListed}
+use Rattle.chip_ports.specs.Ports.{target, isListed}
+use Rattle.chip_ports.specs.declared.Target.{Target}
+use Rattle.chip_ports.specs.declared.Target.the-variants.{Index, Data, ReadIndex, WriteIndex, Paldata, Attribute, Status, NotPicked, NotListed}
 use Rattle.chip.specs.State.{named, join, withNamed, withIndexes, withLoading, indexOf, withIndex}
 use Rattle.chip.specs.Names.{register, received, portsOpen, colour}
 use Rattle.chip.specs.Palette.{aimed, held, moved, loaded, palstate, paldata}

@@ -5,10 +5,10 @@ use Prim.Native.Nat.{ℕ}
 use mathlib.Core.Bool.{Bool, cond}
 use lib.ListN.{getD, set}
 use Rattle.lists.specs.Bits.{isSet}
-use Rattle.registers.specs.Groups.{is}
-use Rattle.registers.specs.WriteRule.{lockedBy, writableNow, written}
-use Rattle.registers.specs.declared.Group.{Group}
-use Rattle.registers.specs.declared.Group.the-variants.{Cr, Sr, Gr, Xr, Fr, Mr, Msr, Palmask, Ar}
+use Rattle.chip_registers.specs.Groups.{is}
+use Rattle.chip_registers.specs.WriteRule.{lockedBy, writableNow, written}
+use Rattle.chip_registers.specs.declared.Group.{Group}
+use Rattle.chip_registers.specs.declared.Group.the-variants.{Cr, Sr, Gr, Xr, Fr, Mr, Msr, Palmask, Ar}
 use Rattle.chip.specs.State.{Named}
 
 -- the byte of a register: a read shows stored bits

@@ -6,7 +6,7 @@ use mathlib.Core.List.{List}
 use lib.Dec.{eqb}
 use lib.ListN.{getD, set}
 use lib.Bits.{bitAnd}
-use Rattle.registers.specs.declared.Group.the-variants.{Palmask}
+use Rattle.chip_registers.specs.declared.Group.the-variants.{Palmask}
 use Rattle.chip.specs.State.{Named, sameRegisters}
 use Rattle.chip.specs.Names.{register, eightBit}
 use Rattle.chip.specs.declared.Rgb.{Rgb}

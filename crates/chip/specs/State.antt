@@ -4,10 +4,10 @@
 use Prim.Native.Nat.{ℕ}
 use mathlib.Core.Bool.{Bool, cond}
 use mathlib.Core.List.{List}
-use Rattle.registers.specs.Groups.{is}
-use Rattle.registers.specs.Indexes.{indexKept}
-use Rattle.registers.specs.declared.Group.{Group}
-use Rattle.registers.specs.declared.Group.the-variants.{Cr, Sr, Gr, Xr, Fr, Mr, Msr, Palmask, Ar}
+use Rattle.chip_registers.specs.Groups.{is}
+use Rattle.chip_registers.specs.Indexes.{indexKept}
+use Rattle.chip_registers.specs.declared.Group.{Group}
+use Rattle.chip_registers.specs.declared.Group.the-variants.{Cr, Sr, Gr, Xr, Fr, Mr, Msr, Palmask, Ar}
 use Rattle.chip.specs.declared.Chip.{Chip}
 use Rattle.chip.specs.declared.Rgb.{Rgb}
 use Rattle.chip.specs.declared.Indexes.{Indexes}

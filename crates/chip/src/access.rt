@@ -5,10 +5,10 @@ ghost use mathlib.Core.Path.{_≡_};
 ghost use Rattle.chip.specs.State.{named, join, indexByte, indexOf, withIndex};
 ghost use Rattle.chip.specs.Access.{numberOf, accessNumber, portWritten, portRead};
 use crate::Chip;
-use ports::Target;
-use ports::leads_to;
-use registers::Group;
-use registers::index_kept;
+use chip_ports::Target;
+use chip_ports::leads_to;
+use chip_registers::Group;
+use chip_registers::index_kept;
 
 // How an access ended.
 pub enum Answer {

@@ -4,7 +4,7 @@ ghost use mathlib.Core.Path.{_≡_};
 ghost use Rattle.chip.specs.State.{withIndexes, withTurn};
 ghost use Rattle.chip.specs.Attribute.{attributeIndex, attributeAimed, attributeSet, attributeWritten};
 use crate::Chip;
-use registers::Group;
+use chip_registers::Group;
 
 impl Chip {
     // The attribute index as 3C0h reads it: the low five bits, and bit 5, the picture.

@@ -6,11 +6,11 @@ ghost use mathlib.Core.Path.{_≡_};
 ghost use Rattle.chip.specs.State.{named, withNamed};
 ghost use Rattle.chip.specs.Names.{register, replaced, locked as lockedOf, received, portsOpen, colour as colourOf, eightBit};
 ghost use Rattle.chip.specs.Reset.{resetByte, filled, reset as resetOf};
-use registers::Group;
-use registers::locked_by;
-use registers::reset_byte;
-use registers::writable_now;
-use registers::write;
+use chip_registers::Group;
+use chip_registers::locked_by;
+use chip_registers::reset_byte;
+use chip_registers::writable_now;
+use chip_registers::write;
 
 pub mod access;
 pub mod attribute;

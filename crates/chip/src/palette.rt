@@ -5,7 +5,7 @@ ghost use Rattle.chip.specs.Palette.{byMode, bright as brightOf, compone
 use crate::Chip;
 use crate::Loading;
 use crate::Rgb;
-use registers::Group;
+use chip_registers::Group;
 
 // A component as a mode stores and reads it: whole, or modulo 64.
 fn by_mode(eight: bool, v: u8) -> u8

@@ -2,17 +2,17 @@
 -- port access are crate `state`'s, those of registers and colours by name crate `lent_names`'s. What has a longer value writes it to
 -- a place that the caller lends.
 use Prim.Native.Nat.{ℕ}
-use Rattle.run.specs.Run.{ofEnding}
-use Rattle.play.specs.Played.{ofOutcome}
-use Rattle.play.specs.declared.Outcome.{Outcome}
-use Rattle.play.specs.declared.Outcome.the-variants.{NotPlayed, Played}
-use Rattle.state.specs.Numbers.{noState}
-use Rattle.restart.specs.declared.Restarted.{Restarted}
-use Rattle.restart.specs.declared.Restarted.the-variants.{Done, Length as RestartLength}
-use Rattle.drive.specs.declared.Driven.{Driven}
-use Rattle.drive.specs.declared.Driven.the-variants.{Ran, Length as DriveLength}
-use Rattle.perform.specs.declared.Performed.{Performed}
-use Rattle.perform.specs.declared.Performed.the-variants.{Met, Length as PerformLength}
+use Rattle.chip_run.specs.Run.{ofEnding}
+use Rattle.chip_play.specs.Played.{ofOutcome}
+use Rattle.chip_play.specs.declared.Outcome.{Outcome}
+use Rattle.chip_play.specs.declared.Outcome.the-variants.{NotPlayed, Played}
+use Rattle.lent_chip.specs.Numbers.{noState}
+use Rattle.lent_reset.specs.declared.Restarted.{Restarted}
+use Rattle.lent_reset.specs.declared.Restarted.the-variants.{Done, Length as RestartLength}
+use Rattle.lent_run.specs.declared.Driven.{Driven}
+use Rattle.lent_run.specs.declared.Driven.the-variants.{Ran, Length as DriveLength}
+use Rattle.lent_play.specs.declared.Performed.{Performed}
+use Rattle.lent_play.specs.declared.Performed.the-variants.{Met, Length as PerformLength}
 
 abbrev pub restartNumber : Restarted → ℕ
 restartNumber Done = 0

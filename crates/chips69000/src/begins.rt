@@ -1,9 +1,9 @@
 // Where a step's commands begin in the translation of a script file: with that as the limit of a run, the run ends with the
 // commands of the steps before it. Document 01, "Commands"; demand 3, which looks after each step.
 ghost use mathlib.Core.Path.{_≡_};
-ghost use Rattle.commands.specs.Translation.{begun, numbersOf};
-use commands::Translated;
-use commands::step_commands;
+ghost use Rattle.script_commands.specs.Translation.{begun, numbersOf};
+use script_commands::Translated;
+use script_commands::step_commands;
 
 // How many commands the steps before this one have; past the last step, how many there are. A refused file is as for a check.
 #[no_mangle]

@@ -6,15 +6,15 @@
 ghost use mathlib.Core.Path.{_≡_};
 ghost use Rattle.chip.specs.Access.{portWritten, portRead};
 ghost use Rattle.chip.specs.Reset.{reset as resetOf};
-ghost use Rattle.state.specs.Layout.{view, spare};
-ghost use Rattle.state.specs.Accesses.{Left, writeAnswer, readAnswer};
-ghost use Rattle.state.specs.Numbers.{writeNumber, readWord};
-ghost use Rattle.restart.specs.Fresh.{restartAnswer};
+ghost use Rattle.lent_chip.specs.Layout.{view, spare};
+ghost use Rattle.lent_chip.specs.Accesses.{Left, writeAnswer, readAnswer};
+ghost use Rattle.lent_chip.specs.Numbers.{writeNumber, readWord};
+ghost use Rattle.lent_reset.specs.Fresh.{restartAnswer};
 ghost use Rattle.chips69000.specs.Numbers.{restartNumber};
-use restart::Restarted;
-use restart::restart;
-use state::access::read_word;
-use state::access::write_number;
+use lent_chip::access::read_word;
+use lent_chip::access::write_number;
+use lent_reset::Restarted;
+use lent_reset::restart;
 
 pub mod begins;
 pub mod names;

@@ -5,28 +5,28 @@ ghost use mathlib.Core.Path.{_≡_};
 ghost use lib.ListN.{length};
 ghost use Rattle.script.specs.File.{checked};
 ghost use Rattle.script.specs.Numbers.{ofRefusal, ofChecked};
-ghost use Rattle.writer.specs.Write.{written, ofWritten, leftBy as listLeftBy};
-ghost use Rattle.commands.specs.Translation.{translated, numbersOf, leftBy};
-ghost use Rattle.run.specs.Run.{ran, ofEnding, numberOf as reasonNumber};
-ghost use Rattle.play.specs.Played.{played, ofOutcome};
-ghost use Rattle.state.specs.Layout.{view, spare};
-ghost use Rattle.state.specs.Accesses.{Left};
-ghost use Rattle.drive.specs.Drive.{driveAnswer};
-ghost use Rattle.perform.specs.Perform.{performAnswer, bufferLeft, ByNameIn};
+ghost use Rattle.script_writer.specs.Write.{written, ofWritten, leftBy as listLeftBy};
+ghost use Rattle.script_commands.specs.Translation.{translated, numbersOf, leftBy};
+ghost use Rattle.chip_run.specs.Run.{ran, ofEnding, numberOf as reasonNumber};
+ghost use Rattle.chip_play.specs.Played.{played, ofOutcome};
+ghost use Rattle.lent_chip.specs.Layout.{view, spare};
+ghost use Rattle.lent_chip.specs.Accesses.{Left};
+ghost use Rattle.lent_run.specs.Drive.{driveAnswer};
+ghost use Rattle.lent_play.specs.Perform.{performAnswer, bufferLeft, ByNameIn};
 ghost use Rattle.chips69000.specs.Numbers.{driveNumber, driveCount, drivePlace, playNumber, countOf, playCount, playValue};
-use commands::Translated;
-use commands::translate;
-use drive::Driven;
-use drive::drive;
-use perform::Performed;
-use perform::perform;
-use play::Outcome;
-use run::Ending;
-use run::Reason;
+use chip_play::Outcome;
+use chip_run::Ending;
+use chip_run::Reason;
+use lent_play::Performed;
+use lent_play::perform;
+use lent_run::Driven;
+use lent_run::drive;
 use script::Checked;
 use script::Refusal;
 use script::check_file;
-use writer::Written;
+use script_commands::Translated;
+use script_commands::translate;
+use script_writer::Written;
 
 // A number and its value.
 struct Two {
@@ -138,7 +138,7 @@ pub extern "C" fn chips69000_write_script(steps: &[u8], file: &mut [u8], value: 
     ensures { λ _. ⌜ now (value .exit) ≡ ofWritten (written (now (steps .entry)) (length (now (file .entry)))) .value ⌝ }
     ensures { λ _. ⌜ now (file .exit) ≡ listLeftBy (written (now (steps .entry)) (length (now (file .entry)))) (now (steps .entry)) (now (file .entry)) ⌝ }
 {
-    let t = of_written(writer::write(steps, file));
+    let t = of_written(script_writer::write(steps, file));
     *value = t.value;
     t.number
 }

@@ -1,15 +1,15 @@
-// Makes a script file of a text that it reads from standard input, a step a line. The file and the complaint are the crate composing's. A
+// Makes a script file of a text that it reads from standard input, a step a line. The file and the complaint are the crate text_to_script's. A
 // text is at most 1,048,576 bytes; one byte more is read, so that a longer text is seen to be longer and is refused, not cut. What is
 // wrong with a text goes to standard error, in one line with the number of the line that it concerns, and nothing is written. Lines are counted from 1
 // there, as an editor counts them.
 ghost use mathlib.Core.Path.{_≡_};
 ghost use lib.ListN.{length};
-use composing::Composed;
-use composing::complain;
-use composing::compose;
 use libc::STDERR_FILENO;
 use libc::STDIN_FILENO;
 use libc::STDOUT_FILENO;
+use text_to_script::Composed;
+use text_to_script::complain;
+use text_to_script::compose;
 
 // Room for twelve blocks.
 fn file_buffer() -> [u8; 6144]

@@ -9,11 +9,11 @@ use mathlib.Core.List.{List}
 use lib.Dec.{eqb, ltb}
 use lib.ListN.{length}
 use borrow.Author.Tests.{eq-eqb, ne-eqb, eqb-true, eqb-false, lt-ltb, ltb-true, ltb-false}
-use Rattle.registers.specs.Groups.{numberOf, groupAt, rowOf}
-use Rattle.registers.specs.declared.Group.{Group}
-use Rattle.registers.specs.declared.Group.the-variants.{Cr, Sr, Gr, Xr, Fr, Mr, Msr, Palmask, Ar}
-use Rattle.registers.specs.declared.Row.the-variants.{Unlisted}
-use Rattle.registers.proofs.TableLaws.{group-numbered}
+use Rattle.chip_registers.specs.Groups.{numberOf, groupAt, rowOf}
+use Rattle.chip_registers.specs.declared.Group.{Group}
+use Rattle.chip_registers.specs.declared.Group.the-variants.{Cr, Sr, Gr, Xr, Fr, Mr, Msr, Palmask, Ar}
+use Rattle.chip_registers.specs.declared.Row.the-variants.{Unlisted}
+use Rattle.chip_registers.proofs.TableLaws.{group-numbered}
 use Rattle.chip.specs.State.{named}
 use Rattle.chip.specs.Names.{register}
 use Rattle.chip.specs.Palette.{entry, shown}
@@ -21,7 +21,7 @@ use Rattle.chip.specs.Reach.{Reach}
 use Rattle.chip.specs.declared.Chip.{Chip}
 use Rattle.chip.specs.declared.Rgb.{Rgb}
 use Rattle.chip.proofs.ReachLaws.{unlisted-reads-00}
-use Rattle.state.specs.Layout.{whole, view, Holds}
+use Rattle.lent_chip.specs.Layout.{whole, view, Holds}
 use Rattle.lent_names.specs.Answers.{registerAnswer, entryAnswer, pixelAnswer}
 use Rattle.lent_names.specs.Numbers.{registerNumber, registerByte, registerWord, colourWord}
 use Rattle.lent_names.specs.declared.Register.{Register}

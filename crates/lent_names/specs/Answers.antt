@@ -6,12 +6,12 @@ use Prim.Native.Nat.{ℕ}
 use mathlib.Core.Bool.{cond}
 use mathlib.Core.List.{List}
 use lib.Dec.{ltb}
-use Rattle.registers.specs.Groups.{groupAt}
+use Rattle.chip_registers.specs.Groups.{groupAt}
 use Rattle.chip.specs.State.{named}
 use Rattle.chip.specs.Names.{register}
 use Rattle.chip.specs.Palette.{entry, shown}
-use Rattle.state.specs.Layout.{view}
-use Rattle.state.specs.Accesses.{isState}
+use Rattle.lent_chip.specs.Layout.{view}
+use Rattle.lent_chip.specs.Accesses.{isState}
 use Rattle.lent_names.specs.declared.Register.{Register}
 use Rattle.lent_names.specs.declared.Register.the-variants.{Byte, NoGroup, Length as RegisterLength}
 use Rattle.lent_names.specs.declared.Colour.{Colour}

@@ -2,7 +2,7 @@
 -- no state. A register comes as 256 times the number plus the byte, which is FFh where the number is not 0; a colour as a word of
 -- four bytes, the number highest, then red, green and blue, which are 0 where the number is not 0.
 use Prim.Native.Nat.{ℕ, _+_, _*_}
-use Rattle.state.specs.Numbers.{noState}
+use Rattle.lent_chip.specs.Numbers.{noState}
 use Rattle.lent_names.specs.declared.Register.{Register}
 use Rattle.lent_names.specs.declared.Register.the-variants.{Byte, NoGroup, Length as RegisterLength}
 use Rattle.lent_names.specs.declared.Colour.{Colour}

@@ -8,13 +8,13 @@ ghost use lib.ListN.{length};
 ghost use Rattle.chip.specs.State.{named};
 ghost use Rattle.chip.specs.Names.{register, eightBit};
 ghost use Rattle.chip.specs.Palette.{bright as brightOf, entry as entryAt, shown as shownOf};
-ghost use Rattle.state.specs.Layout.{whole, view};
+ghost use Rattle.lent_chip.specs.Layout.{whole, view};
 ghost use Rattle.lent_names.specs.Answers.{registerAnswer, entryAnswer, pixelAnswer};
 use chip::Rgb;
-use registers::Group;
-use registers::group_at;
-use state::access::STATE;
-use state::place;
+use chip_registers::Group;
+use chip_registers::group_at;
+use lent_chip::access::STATE;
+use lent_chip::place;
 
 // What is answered of a register.
 pub enum Register {

@@ -1,12 +1,12 @@
 // Prints the listing of a script file that it reads from standard input: document 01, "The listing program".
-// The text is the crate lines'. A file is at most twelve blocks, 6,144 bytes; one byte more is read, so that a
+// The text is the crate text_listing'. A file is at most twelve blocks, 6,144 bytes; one byte more is read, so that a
 // longer file is seen to be longer and is refused, not cut.
 ghost use mathlib.Core.Path.{_≡_};
 ghost use lib.ListN.{length};
 use libc::STDIN_FILENO;
 use libc::STDOUT_FILENO;
-use lines::Listed;
-use lines::list;
+use text_listing::Listed;
+use text_listing::list;
 
 // Room for the commands of 1,008 steps, 32 bytes a step.
 fn commands_buffer() -> [u8; 32256]

@@ -12,20 +12,20 @@ use Rattle.lists.specs.Bits.{bit, isSet}
 use Rattle.lists.specs.Numbers.{returned}
 use Rattle.lists.specs.Put.{put}
 use Rattle.lists.specs.Tab.{Bytes}
-use Rattle.registers.specs.Groups.{groupAt, rowOf, writableOf}
-use Rattle.registers.specs.Indexes.{indexKept, fits}
-use Rattle.registers.specs.WriteRule.{written}
-use Rattle.registers.specs.declared.Group.{Group}
-use Rattle.registers.specs.declared.Group.the-variants.{Ar, Palmask}
-use Rattle.registers.specs.declared.Row.the-variants.{Unlisted}
-use Rattle.registers.proofs.PrintedRows as printed-rows
-use Rattle.registers.proofs.PrintedRows.{asPrinted, printed}
-use Rattle.registers.proofs.Stretches.{has}
-use Rattle.registers.proofs.WriteLaws as write-laws
-use Rattle.ports.specs.Ports.{target}
-use Rattle.ports.specs.declared.Target.the-variants.{Index, Data}
-use Rattle.ports.proofs.PortLaws as port-laws
-use Rattle.ports.proofs.PortLaws.{listedPorts, linesFrom, documented}
+use Rattle.chip_registers.specs.Groups.{groupAt, rowOf, writableOf}
+use Rattle.chip_registers.specs.Indexes.{indexKept, fits}
+use Rattle.chip_registers.specs.WriteRule.{written}
+use Rattle.chip_registers.specs.declared.Group.{Group}
+use Rattle.chip_registers.specs.declared.Group.the-variants.{Ar, Palmask}
+use Rattle.chip_registers.specs.declared.Row.the-variants.{Unlisted}
+use Rattle.chip_registers.proofs.PrintedRows as printed-rows
+use Rattle.chip_registers.proofs.PrintedRows.{asPrinted, printed}
+use Rattle.chip_registers.proofs.Stretches.{has}
+use Rattle.chip_registers.proofs.WriteLaws as write-laws
+use Rattle.chip_ports.specs.Ports.{target}
+use Rattle.chip_ports.specs.declared.Target.the-variants.{Index, Data}
+use Rattle.chip_ports.proofs.PortLaws as port-laws
+use Rattle.chip_ports.proofs.PortLaws.{listedPorts, linesFrom, documented}
 use Rattle.chip.specs.State.{Named, named, join, withIndex, withPicture, withTurn}
 use Rattle.chip.specs.Names.{register, received, writableAt, portsOpen, colour, eightBit}
 use Rattle.chip.specs.Palette.{entry, rgb, shown}
@@ -44,62 +44,62 @@ use Rattle.chip.proofs.IndexLaws as index-laws
 use Rattle.chip.proofs.AttributeLaws as attribute-laws
 use Rattle.memory.specs.Memory.{lengthAllowed, byteNumber}
 use Rattle.memory.proofs.Laws as memory-laws
-use Rattle.raster.specs.Raster.{raster}
-use Rattle.raster.specs.AppendixE.{printed as printedCodes, value, inputs, zeros}
-use Rattle.raster.specs.AppendixELaws as appendix-laws
+use Rattle.blit_raster.specs.Raster.{raster}
+use Rattle.blit_raster.specs.AppendixE.{printed as printedCodes, value, inputs, zeros}
+use Rattle.blit_raster.specs.AppendixELaws as appendix-laws
 use Rattle.blit_frame.specs.Frame.{inRange, inMemory, judgedNumber}
 use Rattle.blit_frame.specs.declared.Transfer.{Transfer}
 use Rattle.blit_frame.proofs.Numbers as frame-laws
 use Rattle.blit_frame.proofs.Numbers.{UsedOutside}
 use Rattle.blit.specs.Transfer.{transferred}
 use Rattle.blit.proofs.Laws as blit-laws
-use Rattle.steps.specs.Step.{legal, idle, judged}
-use Rattle.steps.specs.declared.Step.{Step}
-use Rattle.steps.specs.declared.Step.the-variants.{Set, Field}
-use Rattle.steps.specs.declared.StepRead.the-variants.{Good, Refused}
-use Rattle.steps.specs.declared.Fault.the-variants.{Unallowed, Idle}
-use Rattle.steps.proofs.Lawful as lawful
+use Rattle.script_steps.specs.Step.{legal, idle, judged}
+use Rattle.script_steps.specs.declared.Step.{Step}
+use Rattle.script_steps.specs.declared.Step.the-variants.{Set, Field}
+use Rattle.script_steps.specs.declared.StepRead.the-variants.{Good, Refused}
+use Rattle.script_steps.specs.declared.Fault.the-variants.{Unallowed, Idle}
+use Rattle.script_steps.proofs.Lawful as lawful
 use Rattle.script.specs.File.{blocks, checked}
 use Rattle.script.specs.Numbers.{ofChecked, fileTable}
 use Rattle.script.specs.Reader.{nextOf}
 use Rattle.script.specs.declared.Checked.the-variants.{Accepted}
 use Rattle.script.specs.declared.Next.the-variants.{End}
 use Rattle.script.proofs.Checking as checking
-use Rattle.writer.specs.Write.{fileOf, written as listWritten, leftBy as listLeftBy, ofWritten, listTable, stepsOf}
-use Rattle.writer.specs.declared.Written.the-variants.{Blocks}
-use Rattle.writer.proofs.RoundTrip as round-trip
-use Rattle.writer.proofs.Writing as writing
-use Rattle.commands.specs.Command.{bytesOfAll}
-use Rattle.commands.specs.Translation.{stepsTo, commandsTo, begins, translated, numbersOf, translationTable}
-use Rattle.commands.proofs.Translating as translating
-use Rattle.commands.proofs.Counted as counted
-use Rattle.commands.proofs.Counted.{sixes, placesTo}
-use Rattle.run.specs.Run.{ran, ofEnding, least, runTable}
-use Rattle.run.specs.declared.Ending.{Ending}
-use Rattle.run.proofs.RunLaws as run-laws
-use Rattle.run.proofs.RunNumbers as run-number-laws
-use Rattle.play.specs.ByName.{applied, appliedAll}
-use Rattle.play.proofs.Demand3 as scripts
-use Rattle.play.proofs.Scripts as script-laws
-use Rattle.play.proofs.Scripts.{AllPass}
-use Rattle.play.proofs.Idle as idle-laws
+use Rattle.script_writer.specs.Write.{fileOf, written as listWritten, leftBy as listLeftBy, ofWritten, listTable, stepsOf}
+use Rattle.script_writer.specs.declared.Written.the-variants.{Blocks}
+use Rattle.script_writer.proofs.RoundTrip as round-trip
+use Rattle.script_writer.proofs.Writing as writing
+use Rattle.script_commands.specs.Command.{bytesOfAll}
+use Rattle.script_commands.specs.Translation.{stepsTo, commandsTo, begins, translated, numbersOf, translationTable}
+use Rattle.script_commands.proofs.Translating as translating
+use Rattle.script_commands.proofs.Counted as counted
+use Rattle.script_commands.proofs.Counted.{sixes, placesTo}
+use Rattle.chip_run.specs.Run.{ran, ofEnding, least, runTable}
+use Rattle.chip_run.specs.declared.Ending.{Ending}
+use Rattle.chip_run.proofs.RunLaws as run-laws
+use Rattle.chip_run.proofs.RunNumbers as run-number-laws
+use Rattle.chip_play.specs.ByName.{applied, appliedAll}
+use Rattle.chip_play.proofs.Demand3 as scripts
+use Rattle.chip_play.proofs.Scripts as script-laws
+use Rattle.chip_play.proofs.Scripts.{AllPass}
+use Rattle.chip_play.proofs.Idle as idle-laws
 use Rattle.chip.proofs.NameLaws.{Bytes as NamedBytes}
-use Rattle.state.specs.Layout.{whole, view, spare}
-use Rattle.state.specs.Accesses.{Left}
-use Rattle.state.proofs.Whole as whole-laws
-use Rattle.drive.specs.Drive.{driveAnswer}
-use Rattle.drive.specs.declared.Driven.{Driven}
-use Rattle.drive.specs.declared.Driven.the-variants.{Ran}
-use Rattle.perform.proofs.Demand3 as lent-scripts
-use Rattle.showing.specs.Show.{textOf}
-use Rattle.composing.specs.Compose.{composed, leftBy as textLeftBy}
-use Rattle.composing.specs.declared.Composed.the-variants.{Blocks as ComposedBlocks}
-use Rattle.composing.proofs.SameFile as same-file-laws
+use Rattle.lent_chip.specs.Layout.{whole, view, spare}
+use Rattle.lent_chip.specs.Accesses.{Left}
+use Rattle.lent_chip.proofs.Whole as whole-laws
+use Rattle.lent_run.specs.Drive.{driveAnswer}
+use Rattle.lent_run.specs.declared.Driven.{Driven}
+use Rattle.lent_run.specs.declared.Driven.the-variants.{Ran}
+use Rattle.lent_play.proofs.Demand3 as lent-scripts
+use Rattle.text_from_script.specs.Show.{textOf}
+use Rattle.text_to_script.specs.Compose.{composed, leftBy as textLeftBy}
+use Rattle.text_to_script.specs.declared.Composed.the-variants.{Blocks as ComposedBlocks}
+use Rattle.text_to_script.proofs.SameFile as same-file-laws
 use Rattle.cases.specs.Cases.{allHold, numbers}
 use Rattle.cases.specs.Starred.{starred}
 use Rattle.cases.proofs.Holding as starred-laws
-use Rattle.request_cases.specs.Asked.{asked}
-use Rattle.request_cases.proofs.Holding as asked-laws
+use Rattle.cases_requests.specs.Asked.{asked}
+use Rattle.cases_requests.proofs.Holding as asked-laws
 
 -- ==== 1. Everything is accepted: each number exactly when, and a refusal changes nothing
 

@@ -11,7 +11,7 @@ use lib.Dec.{ltb}
 use Rattle.lists.proofs.Scan.{first-le}
 use Rattle.lists.proofs.Tests.{of-cond}
 use Rattle.lists.specs.Numbers.{Returned, returned}
-use Rattle.steps.specs.declared.Fault.{Fault}
+use Rattle.script_steps.specs.declared.Fault.{Fault}
 use Rattle.script.specs.File.{wholeBlocks, blocks, legalAt, firstBadBlock, stepCount, firstBadStep, stepsChecked, checked}
 use Rattle.script.specs.Numbers.{ofRefusal, ofChecked, checksTable, fileTable}
 use Rattle.script.specs.declared.Layout.the-variants.{Blocks}

@@ -12,12 +12,12 @@ use lib.ListN.{take, drop}
 use Rattle.lists.specs.Numbers.{Returned, returned}
 use Rattle.lists.proofs.Scan.{first-before, end-first}
 use Rattle.lists.proofs.Tests.{of-cond}
-use Rattle.steps.specs.Step.{legal, idle, bytesOf, isGood, ofStepRead}
-use Rattle.steps.specs.declared.Fault.{Fault}
-use Rattle.steps.specs.declared.Step.{Step}
-use Rattle.steps.specs.declared.StepRead.{StepRead}
-use Rattle.steps.specs.declared.StepRead.the-variants.{Good, Refused as NoStep}
-use Rattle.steps.proofs.Codec.{written-read}
+use Rattle.script_steps.specs.Step.{legal, idle, bytesOf, isGood, ofStepRead}
+use Rattle.script_steps.specs.declared.Fault.{Fault}
+use Rattle.script_steps.specs.declared.Step.{Step}
+use Rattle.script_steps.specs.declared.StepRead.{StepRead}
+use Rattle.script_steps.specs.declared.StepRead.the-variants.{Good, Refused as NoStep}
+use Rattle.script_steps.proofs.Codec.{written-read}
 use Rattle.script.specs.File.{stepCount, stepPlace, stepAt, checked}
 use Rattle.script.specs.Numbers.{ofNext, nextTable}
 use Rattle.script.specs.Reader.{asNext, nextOf, after, stood, turned}

@@ -9,10 +9,10 @@ use borrow.Author.Tests.{lt-ltb, le-ltb, ltb-true, ltb-false}
 use lib.Dec.{ltb}
 use Rattle.lists.specs.Numbers.{Returned, returned}
 use Rattle.lists.proofs.Scan.{first-le, first-fails}
-use Rattle.steps.specs.Step.{isGood, ofStepRead}
-use Rattle.steps.specs.declared.Fault.{Fault}
-use Rattle.steps.specs.declared.StepRead.{StepRead}
-use Rattle.steps.specs.declared.StepRead.the-variants.{Good, Refused as NoStep}
+use Rattle.script_steps.specs.Step.{isGood, ofStepRead}
+use Rattle.script_steps.specs.declared.Fault.{Fault}
+use Rattle.script_steps.specs.declared.StepRead.{StepRead}
+use Rattle.script_steps.specs.declared.StepRead.the-variants.{Good, Refused as NoStep}
 use Rattle.script.specs.File.{stepAt, firstBadStep, orRefused, stepsChecked}
 use Rattle.script.specs.Numbers.{ofRefusal, ofChecked, stepsTable}
 use Rattle.script.specs.declared.Layout.{Layout}

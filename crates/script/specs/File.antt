@@ -1,7 +1,7 @@
 -- A script file: its blocks, its steps, and what checking it answers, in document 01's order (Scripts;
 -- Numbers returned): 8, then 6 over all blocks, then 7 or, by document 02, P2, 11. The first offending place
 -- is given, counted from 0, a step over the whole file. What a block has to be is specs/Block, what a step
--- has to be the crate steps.
+-- has to be the crate script_steps.
 use Prim.Native.Nat.{ℕ, _+_, _-_, _*_, _/_, _%_}
 use mathlib.Core.List.{List}
 use mathlib.Core.Bool.{Bool, cond, not}
@@ -9,9 +9,9 @@ use lib.ListN.{length, getD, take, drop}
 use lib.Dec.{ltb, eqb}
 use Rattle.lists.specs.Scan.{firstNot}
 use Rattle.lists.specs.Units.{wholeUnits}
-use Rattle.steps.specs.Step.{readAt, isGood}
-use Rattle.steps.specs.declared.StepRead.{StepRead}
-use Rattle.steps.specs.declared.StepRead.the-variants.{Good, Refused as NoStep}
+use Rattle.script_steps.specs.Step.{readAt, isGood}
+use Rattle.script_steps.specs.declared.StepRead.{StepRead}
+use Rattle.script_steps.specs.declared.StepRead.the-variants.{Good, Refused as NoStep}
 use Rattle.script.specs.Block.{blockLegal}
 use Rattle.script.specs.declared.Layout.{Layout}
 use Rattle.script.specs.declared.Layout.the-variants.{Plain, Blocks}

@@ -1,12 +1,12 @@
 -- Document 01's numbers for each answer, with the value returned beside it (Numbers returned): one
 -- definition to an answer, and the tables of numbers for the reader, for steps and for a checked file, which the answers are
--- proved to meet. The number of one step is the crate steps'.
+-- proved to meet. The number of one step is the crate script_steps'.
 use Prim.Native.Nat.{ℕ}
 use mathlib.Core.List.{List}
 use mathlib.Core.Bool.{cond, not}
 use lib.Dec.{ltb}
 use Rattle.lists.specs.Numbers.{Returned, returned}
-use Rattle.steps.specs.Step.{faultNumber, ofStepRead}
+use Rattle.script_steps.specs.Step.{faultNumber, ofStepRead}
 use Rattle.script.specs.File.{wholeBlocks, blocks, firstBadBlock, stepCount, stepAt, firstBadStep}
 use Rattle.script.specs.declared.Layout.{Layout}
 use Rattle.script.specs.declared.Layout.the-variants.{Blocks}

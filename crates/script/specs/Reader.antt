@@ -6,8 +6,8 @@ use Prim.Native.Nat.{ℕ, zero, suc, _+_}
 use mathlib.Core.List.{List}
 use mathlib.Core.Bool.{cond}
 use lib.Dec.{ltb}
-use Rattle.steps.specs.declared.StepRead.{StepRead}
-use Rattle.steps.specs.declared.StepRead.the-variants.{Good, Refused as NoStep}
+use Rattle.script_steps.specs.declared.StepRead.{StepRead}
+use Rattle.script_steps.specs.declared.StepRead.the-variants.{Good, Refused as NoStep}
 use Rattle.script.specs.File.{stepCount, stepAt}
 use Rattle.script.specs.declared.Layout.the-variants.{Blocks}
 use Rattle.script.specs.declared.Refusal.the-variants.{Step}

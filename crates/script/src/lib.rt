@@ -1,22 +1,22 @@
 // Script files: blocks and their check, the steps of a file, the checked file, and the reader as a position
 // beside the caller's bytes (document 01, Scripts; numbers 8 and 6, and then 7 or, by document 02, P2, 11 for
 // the first step that does not pass). The definitions are in specs/: Block, File, Reader, Numbers. The reader as
-// a struct over the bytes is the crate reader, and making a file is the crate writer.
+// a struct over the bytes is the crate script_reader, and making a file is the crate script_writer.
 ghost use mathlib.Core.Path.{_≡_};
 ghost use Prim.Native.Nat.{_+_, _*_, _%_, _/_, _≤_};
 ghost use lib.ListN.{length, take, drop};
 ghost use Rattle.lists.specs.Numbers.{returned};
-ghost use Rattle.steps.specs.Step.{readNumber, bytesTable};
+ghost use Rattle.script_steps.specs.Step.{readNumber, bytesTable};
 ghost use Rattle.script.specs.Block.{wordSum, checkWord, lastMark, countLegal, unusedZero, contentLegal, blockLegal};
 ghost use Rattle.script.specs.File.{firstBadBlock, stepCount, stepPlace, stepAt, firstBadStep, stepsChecked, checked};
 ghost use Rattle.script.specs.Reader.{asNext, nextOf, turned};
 ghost use Rattle.script.specs.Numbers.{ofRefusal, ofChecked, ofNext, nextTable, stepsTable, fileTable};
 use lists::is_whole;
 use lists::wide;
-use steps::Fault;
-use steps::Step;
-use steps::StepRead;
-use steps::read_at;
+use script_steps::Fault;
+use script_steps::Step;
+use script_steps::StepRead;
+use script_steps::read_at;
 
 // How steps stand in a list of bytes: one after another, or in the blocks of a file.
 pub enum Layout {

@@ -5,19 +5,19 @@
 use blit::block_transfer;
 use blit_frame::Area;
 use blit_frame::Transfer;
+use blit_raster::raster_byte;
 use cases::after_read;
 use cases::after_write as after;
 use cases::byte_read as seen;
 use cases::read_number;
 use cases::write_number as refusal;
+use cases_requests::written_number;
+use cases_requests::written_value;
 use chip::Chip;
-use commands::translate;
+use chip_registers::Group;
 use libc::STDOUT_FILENO;
 use memory::answer_number;
-use raster::raster_byte;
-use registers::Group;
-use request_cases::written_number;
-use request_cases::written_value;
+use script_commands::translate;
 
 // A capital hexadecimal digit.
 fn digit(x: u8) -> u8 {
@@ -212,7 +212,7 @@ fn front(bytes: [u8; 32]) -> [u8; 16] {
 // 12. FIELD XR80, mask 80h, value 80h, written as a file and translated: the bytes of its commands.
 fn case_12() -> [u8; 16] {
     let mut file = [0u8; 512];
-    writer::write(&[2, 3, 0x80, 0x80, 0x80, 0], &mut file);
+    script_writer::write(&[2, 3, 0x80, 0x80, 0x80, 0], &mut file);
     let mut out = [0u8; 32];
     translate(&file, &mut out);
     front(out)
@@ -221,7 +221,7 @@ fn case_12() -> [u8; 16] {
 // 13. One block, SET XR60 43h: the check, high byte first.
 fn case_13() -> [u8; 16] {
     let mut file = [0u8; 512];
-    writer::write(&[1, 3, 0x60, 0x43, 0, 0], &mut file);
+    script_writer::write(&[1, 3, 0x60, 0x43, 0, 0], &mut file);
     let mut out = [0u8; 16];
     out[0] = file[511];
     out[1] = file[510];
@@ -292,7 +292,7 @@ fn case_p1_4() -> [u8; 16] {
 // P1.5. SET AR11 07h, written as a file and translated: the first four of its commands.
 fn case_p1_5() -> [u8; 16] {
     let mut file = [0u8; 512];
-    writer::write(&[1, 8, 0x11, 0x07, 0, 0], &mut file);
+    script_writer::write(&[1, 8, 0x11, 0x07, 0, 0], &mut file);
     let mut out = [0u8; 32];
     translate(&file, &mut out);
     front(out)

@@ -3,10 +3,10 @@
 // FFh, as `CR 07 FF 00`; MSR and PALMASK, which have no index, stand where their numbers are. All of it comes
 // from `registers` and `chip`.
 use chip::Chip;
+use chip_registers::Group;
+use chip_registers::Row;
+use chip_registers::row_of;
 use libc::STDOUT_FILENO;
-use registers::Group;
-use registers::Row;
-use registers::row_of;
 
 // A capital hexadecimal digit.
 fn digit(x: u8) -> u8 {
@@ -64,12 +64,12 @@ fn main() {
     print_group(chip, b'M', Group::Mr);
     io::write_all(STDOUT_FILENO, b"MSR --");
     print_row(
-        registers::writable(Group::Msr, 0x00),
+        chip_registers::writable(Group::Msr, 0x00),
         chip.get(Group::Msr, 0x00),
     );
     io::write_all(STDOUT_FILENO, b"PALMASK --");
     print_row(
-        registers::writable(Group::Palmask, 0x00),
+        chip_registers::writable(Group::Palmask, 0x00),
         chip.get(Group::Palmask, 0x00),
     );
     print_group(chip, b'A', Group::Ar);

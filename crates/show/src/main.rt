@@ -1,5 +1,5 @@
 // Prints the steps of a script file that it reads from standard input, a line each, as the program compose reads them. The text
-// and the complaint are the crate showing's. A file is at most twelve blocks, 6,144 bytes; one byte more is read, so that a longer file is seen to be longer
+// and the complaint are the crate text_from_script's. A file is at most twelve blocks, 6,144 bytes; one byte more is read, so that a longer file is seen to be longer
 // and is refused, not cut. What is wrong with a file goes to standard error, in one line, and nothing is printed.
 ghost use mathlib.Core.Path.{_≡_};
 ghost use lib.ListN.{length};
@@ -7,9 +7,9 @@ use libc::STDERR_FILENO;
 use libc::STDIN_FILENO;
 use libc::STDOUT_FILENO;
 use script::Refusal;
-use showing::Shown;
-use showing::complain;
-use showing::show;
+use text_from_script::Shown;
+use text_from_script::complain;
+use text_from_script::show;
 
 // Room for the lines of 1,008 steps, 20 bytes a line.
 fn text_buffer() -> [u8; 20160]

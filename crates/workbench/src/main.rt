@@ -1,19 +1,19 @@
 // Answers requests to a chip that it reads from standard input, one a line: the replies go to standard output, in the order
 // of the lines. It begins after a reset with pin bytes FFh, and with 2,097,152 bytes of memory, all of them 0. What a line
-// asks for is the crate requests', what it does the crate session's, and the text of a reply the crate replies'. Replies
+// asks for is the crate workbench_requests', what it does the crate workbench_input's, and the text of a reply the crate workbench_replies'. Replies
 // are printed where a piece of input ends, and where their text leaves no room for another. A last line needs no line feed.
 // It ends where the input does, or where the end is asked for.
 ghost use Prim.Native.Nat.{_<_, _≤_};
 ghost use lib.ListN.{length};
 use chip::Chip;
 use libc::STDIN_FILENO;
-use session::Bench;
-use session::desk::Desk;
-use session::desk::Fed;
-use session::desk::feed;
-use session::shorter_of;
 use streams::print;
 use streams::say_unread;
+use workbench_input::Bench;
+use workbench_input::desk::Desk;
+use workbench_input::desk::Fed;
+use workbench_input::desk::feed;
+use workbench_input::shorter_of;
 
 // The desk after a piece of input, and whether there may be more.
 struct After {

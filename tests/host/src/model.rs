@@ -1,16 +1,16 @@
 //! The chip, written from documents 01 and 02 (P1, P2) and from nothing else of this repository but the rows of registers, which are read
-//! from the definitions' text (crates/registers/specs): they are data, and have no second source here. The attribute registers' rows
+//! from the definitions' text (crates/chip_registers/specs): they are data, and have no second source here. The attribute registers' rows
 //! are written here, with the figures of the same one reading of chapter 12: a slip of the pen is found, another reading is not.
 
 use std::collections::HashMap;
 
 pub const GROUPS: [(&str, &str); 6] = [
-    ("CR", include_str!("../../../crates/registers/specs/CrtController.antt")),
-    ("SR", include_str!("../../../crates/registers/specs/Sequencer.antt")),
-    ("GR", include_str!("../../../crates/registers/specs/Graphics.antt")),
-    ("XR", include_str!("../../../crates/registers/specs/Extension.antt")),
-    ("FR", include_str!("../../../crates/registers/specs/FlatPanel.antt")),
-    ("MR", include_str!("../../../crates/registers/specs/Multimedia.antt")),
+    ("CR", include_str!("../../../crates/chip_registers/specs/CrtController.antt")),
+    ("SR", include_str!("../../../crates/chip_registers/specs/Sequencer.antt")),
+    ("GR", include_str!("../../../crates/chip_registers/specs/Graphics.antt")),
+    ("XR", include_str!("../../../crates/chip_registers/specs/Extension.antt")),
+    ("FR", include_str!("../../../crates/chip_registers/specs/FlatPanel.antt")),
+    ("MR", include_str!("../../../crates/chip_registers/specs/Multimedia.antt")),
 ];
 
 /// Writable bits and reset byte of a register, by group number and index; and of each group the indexes whose register has a writable

@@ -7,9 +7,9 @@ use denote.Ref.{now}
 use borrow.Author.Needs.{needs}
 use lib.Seq.{length-take-le}
 use Rattle.text.proofs.Adding.{behind-within}
-use Rattle.complaints.specs.Ascii.{ascii}
-use Rattle.complaints.specs.Complaint.{complaint}
-use Rattle.complaints.proofs.Lengths.{complaint-most}
+use Rattle.text.specs.Ascii.{ascii}
+use Rattle.text_refusals.specs.Complaint.{complaint}
+use Rattle.text_refusals.proofs.Lengths.{complaint-most}
 use Rattle.after.proofs.print_complaint.Statement.{statement}
 use Rattle.after.proofs.print_complaint.Tie as tie
 

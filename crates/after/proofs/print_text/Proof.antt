@@ -5,7 +5,7 @@ use borrow.Author.Needs.{needs}
 use denote.Ref.{now}
 use lib.ListN.{length}
 use lib.Seq.{length-take-le}
-use Rattle.played_text.proofs.Lengths.{told-within}
+use Rattle.text_played.proofs.Lengths.{told-within}
 use Rattle.after.proofs.print_text.Statement.{statement}
 use Rattle.after.proofs.print_text.Tie as tie
 

@@ -5,8 +5,8 @@ use denote.Ref.{now}
 use borrow.Author.Needs.{needs}
 use lib.Seq.{length-take-le}
 use Rattle.text.proofs.Adding.{behind-within}
-use Rattle.composing.specs.Complaint.{complaint}
-use Rattle.composing.proofs.Complaining.{complaint-most}
+use Rattle.text_to_script.specs.Complaint.{complaint}
+use Rattle.text_to_script.proofs.Complaining.{complaint-most}
 use Rattle.compose.proofs.print_complaint.Statement.{statement}
 use Rattle.compose.proofs.print_complaint.Tie as tie
 

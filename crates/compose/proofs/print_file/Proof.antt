@@ -7,8 +7,8 @@ use borrow.Author.Needs.{needs}
 use denote.Ref.{now}
 use lib.ListN.{length}
 use lib.Seq.{length-take-le}
-use Rattle.composing.specs.Lines.{linesOf}
-use Rattle.composing.proofs.Gathering.{composed-within}
+use Rattle.text_to_script.specs.Lines.{linesOf}
+use Rattle.text_to_script.proofs.Gathering.{composed-within}
 use Rattle.compose.proofs.print_file.Statement.{statement}
 use Rattle.compose.proofs.print_file.Tie as tie
 

@@ -5,8 +5,8 @@ use mathlib.Core.List.{List}
 use lib.ListN.{getD}
 use Rattle.chip.specs.State.{named}
 use Rattle.chip.specs.Palette.{rgb, entry}
-use Rattle.state.specs.Layout.{view}
-use Rattle.state.proofs.Stores.{get-colour}
+use Rattle.lent_chip.specs.Layout.{view}
+use Rattle.lent_chip.proofs.Stores.{get-colour}
 use borrow.Author.Needs.{needs}
 use native.Mathlib.Omega.{arith}
 use Rattle.lent_names.proofs.entry.Statement.{statement}

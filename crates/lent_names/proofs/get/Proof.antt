@@ -1,5 +1,5 @@
 -- The byte at the register's place.
-use Rattle.state.proofs.Stores.{get-reg}
+use Rattle.lent_chip.proofs.Stores.{get-reg}
 use mathlib.Core.Path.{sym}
 use native.Mathlib.Omega.{arith}
 use borrow.Author.Needs.{needs}

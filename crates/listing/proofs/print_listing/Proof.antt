@@ -6,7 +6,7 @@ use borrow.Author.Needs.{needs}
 use denote.Ref.{now}
 use lib.ListN.{length}
 use lib.Seq.{length-take-le}
-use Rattle.lines.proofs.TextLaws.{listed-within}
+use Rattle.text_listing.proofs.TextLaws.{listed-within}
 use Rattle.listing.proofs.print_listing.Statement.{statement}
 use Rattle.listing.proofs.print_listing.Tie as tie
 

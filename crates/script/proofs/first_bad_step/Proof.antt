@@ -7,7 +7,7 @@ use borrow.Author.Needs.{needs}
 use denote.Ref.{now}
 use Rattle.lists.specs.Scan.{firstNot}
 use Rattle.lists.proofs.Scan.{first-more, first-stop, first-none}
-use Rattle.steps.specs.Step.{isGood}
+use Rattle.script_steps.specs.Step.{isGood}
 use Rattle.script.specs.File.{stepAt, firstBadStep}
 use Rattle.script.proofs.first_bad_step.Statement.{statement}
 use Rattle.script.proofs.first_bad_step.Tie as tie

@@ -3,8 +3,8 @@ use borrow.Author.Needs.{needs}
 use mathlib.Core.Path.{sym, ap, _∙_}
 use denote.Ref.{now}
 use native.Mathlib.Omega.{arith}
-use Rattle.steps.specs.Step.{readAt}
-use Rattle.steps.proofs.Codec.{read-short, read-answered}
+use Rattle.script_steps.specs.Step.{readAt}
+use Rattle.script_steps.proofs.Codec.{read-short, read-answered}
 use Rattle.script.specs.File.{stepPlace}
 use Rattle.script.proofs.step_at.Statement.{statement}
 use Rattle.script.proofs.step_at.Tie as tie

@@ -5,8 +5,8 @@ use denote.Ref.{now}
 use borrow.Author.Needs.{needs}
 use lib.Seq.{length-take-le}
 use Rattle.text.proofs.Adding.{behind-within}
-use Rattle.showing.specs.Complaint.{complaint}
-use Rattle.showing.proofs.Complaining.{complaint-most}
+use Rattle.text_from_script.specs.Complaint.{complaint}
+use Rattle.text_from_script.proofs.Complaining.{complaint-most}
 use Rattle.show.proofs.print_complaint.Statement.{statement}
 use Rattle.show.proofs.print_complaint.Tie as tie
 

@@ -5,7 +5,7 @@ use borrow.Author.Needs.{needs}
 use denote.Ref.{now}
 use lib.ListN.{length}
 use lib.Seq.{length-take-le}
-use Rattle.showing.proofs.Showing.{shown-within}
+use Rattle.text_from_script.proofs.Showing.{shown-within}
 use Rattle.show.proofs.print_text.Statement.{statement}
 use Rattle.show.proofs.print_text.Tie as tie
 

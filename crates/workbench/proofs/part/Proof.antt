@@ -4,8 +4,8 @@ use borrow.Author.Needs.{needs}
 use borrow.Author.Tests.{le-leb}
 use denote.Ref.{now}
 use lib.Seq.{length-take-le}
-use Rattle.session.specs.Desk.{Place, sittingAt}
-use Rattle.session.proofs.PartLaws.{fed-moves}
+use Rattle.workbench_input.specs.Desk.{Place, sittingAt}
+use Rattle.workbench_input.proofs.PartLaws.{fed-moves}
 use Rattle.workbench.proofs.part.Statement.{statement}
 use Rattle.workbench.proofs.part.Tie as tie
 

@@ -6,7 +6,7 @@ use lib.ListN.{length}
 use native.Mathlib.Numerals.{add-one}
 use native.Mathlib.Omega.{arith}
 use borrow.Author.Needs.{needs}
-use Rattle.raster.specs.Raster.{usesSource, usesPattern}
+use Rattle.blit_raster.specs.Raster.{usesSource, usesPattern}
 use Rattle.blit.specs.Transfer.{inTurn, lineDone, linesDone}
 use Rattle.blit_frame.specs.Lines.{lineLow}
 use Rattle.blit.specs.Working.{sourceLow, patternFirst}

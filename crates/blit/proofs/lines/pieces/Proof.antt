@@ -4,7 +4,7 @@ use mathlib.Core.Path.{_≡_, refl}
 use lib.ListN.{length}
 use native.Mathlib.Omega.{arith}
 use borrow.Author.Needs.{needs}
-use Rattle.raster.specs.Raster.{usesSource}
+use Rattle.blit_raster.specs.Raster.{usesSource}
 use Rattle.blit.specs.Transfer.{inTurn}
 use Rattle.blit.specs.Working.{lineByte}
 use Rattle.blit.proofs.Ways.{piece-done}

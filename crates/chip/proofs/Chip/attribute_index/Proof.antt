@@ -1,6 +1,6 @@
 -- Bit 5 beside the low five, which leave room for it.
 use native.Mathlib.Omega.{arith}
-use Rattle.registers.specs.Indexes.{indexKept}
+use Rattle.chip_registers.specs.Indexes.{indexKept}
 use borrow.Author.Needs.{needs}
 use Rattle.chip.proofs.Chip.attribute_index.Statement.{statement}
 use Rattle.chip.proofs.Chip.attribute_index.Tie as tie

@@ -1,0 +1,34 @@
+-- Every case of document 02's requests holds, computed from the definitions.
+use mathlib.Core.Bool.{true}
+use mathlib.Core.Path.{_≡_, refl}
+use Rattle.chip_registers.specs.CrtController.{CR}
+use Rattle.chip_registers.specs.Attribute.{AR}
+use Rattle.chip_registers.specs.Extension.{XR}
+use Rattle.chip_registers.specs.Multimedia.{MR}
+use Rattle.chip_registers.specs.Sequencer.{SR}
+use Rattle.chip_registers.specs.Graphics.{GR}
+use Rattle.chip_registers.specs.Groups.{groupAt, rowOf}
+use Rattle.chip_registers.specs.Indexes.{indexKept, fits}
+use Rattle.chip_registers.specs.WriteRule.{lockedBy, leftOpen, writableNow, written}
+use Rattle.chip_ports.specs.Ports.{ports, target}
+use Rattle.chip.specs.Names.{locked, received, portsOpen, colour, eightBit}
+use Rattle.chip.specs.Palette.{coloured, loaded, shown}
+use Rattle.chip.specs.Access.{portWritten, portRead}
+use Rattle.chip.specs.Reset.{resetByte, filled, reset}
+use Rattle.blit_raster.specs.Raster.{number, raster, usesSource, usesPattern}
+use Rattle.blit_frame.specs.Frame.{inRange, inMemory}
+use Rattle.blit.specs.Transfer.{byteDone, inTurn, lineDone, linesDone, transferred}
+use Rattle.lists.specs.Scan.{firstNot, every}
+use Rattle.lists.specs.Tab.{tab}
+use Rattle.script_steps.specs.Step.{names, legal, idle, judged, shaped, stepOf, bytesOf}
+use Rattle.script.specs.Block.{wordSum}
+use Rattle.script.specs.File.{stepsChecked}
+use Rattle.script_writer.specs.Write.{front, blocksTo, written as fileWritten}
+use Rattle.script_commands.specs.Command.{bytesOfAll}
+use Rattle.script_commands.specs.Expansion.{ways, expanded}
+use Rattle.cases.specs.Cases.{allHold}
+use Rattle.cases_requests.specs.Asked.{asked}
+
+pub requests-hold : allHold asked ≡ true
+unfolding asked CR SR GR XR MR AR indexKept groupAt rowOf lockedBy leftOpen writableNow written ports target locked received portsOpen colour eightBit coloured loaded shown portWritten portRead resetByte filled reset number raster usesSource usesPattern byteDone inTurn lineDone linesDone inRange inMemory transferred firstNot every tab names legal fits idle judged shaped stepOf bytesOf wordSum stepsChecked front blocksTo fileWritten bytesOfAll ways expanded
+requests-hold = refl

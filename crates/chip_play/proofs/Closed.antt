@@ -1,0 +1,66 @@
+-- With closed ports a script's run stops at its first command, number 2, and the state is as it was: every legal step begins with
+-- a port access.
+use Prim.Native.Nat.{ℕ, _+_, _<_}
+use native.Mathlib.Omega.{arith}
+use mathlib.Core.Bool.{true, false}
+use mathlib.Core.Path.{_≡_}
+use mathlib.Core.List.{List, [], _∷_, _++_}
+use lib.ListN.{length}
+use Rattle.lists.proofs.Tests.{and-both}
+use Rattle.chip.specs.State.{named}
+use Rattle.chip.specs.Names.{portsOpen}
+use Rattle.chip.specs.Access.{portWritten, portRead}
+use Rattle.chip.specs.declared.Chip.{Chip}
+use Rattle.script_steps.specs.Step.{names, within, legal}
+use Rattle.script_steps.specs.declared.Step.{Step}
+use Rattle.script_steps.specs.declared.Step.the-variants.{Set, Field, Colour}
+use Rattle.script_commands.specs.Expansion.{ways, setBy, fieldBy, expanded, commandsOf}
+use Rattle.script_commands.specs.declared.Command.{Command}
+use Rattle.script_commands.specs.declared.Command.the-variants.{Out, In}
+use Rattle.script_commands.specs.declared.Ways.{Ways}
+use Rattle.script_commands.specs.declared.Ways.the-variants.{Pair, Pairs, Direct, Turns, Nowhere}
+use Rattle.chip_run.specs.Run.{one, done, runFrom, ranTo}
+use Rattle.chip_run.proofs.RunLaws.{knowns}
+use Rattle.chip_run.specs.declared.Reason.the-variants.{Closed}
+use Rattle.chip_run.specs.declared.Ending.the-variants.{Stopped}
+use Rattle.chip_registers.specs.Groups.{groupAt}
+use Rattle.chip_play.proofs.Reaching.{Leads, leads}
+use Rattle.chip_play.proofs.Demand3.{AllLegal}
+
+module _ (c : Chip) (shut : portsOpen (named c) ≡ false) where
+  -- a list of commands that stops at its first
+  record Stops (cs : List Command) : Type 0 where
+    at-once : (ds : List Command) → runFrom c 0 0 (length (cs ++ ds)) (knowns (cs ++ ds)) ≡ ranTo c 0 (Stopped 0 Closed)
+
+  out-stops : (p v : ℕ) (cs : List Command) → Stops (Out p v ∷ cs)
+  unfolding runFrom one done portWritten
+  out-stops p v cs = record { at-once = λ ds. rw shut }
+
+  in-stops : (p : ℕ) (cs : List Command) → Stops (In p ∷ cs)
+  unfolding runFrom one done portRead
+  in-stops p cs = record { at-once = λ ds. rw shut }
+
+  set-stops : (w : Ways) (i v group : ℕ) → Leads true (groupAt group) i w → Stops (setBy w i v)
+  set-stops (Pair x p) i v group l = out-stops x i _
+  set-stops (Pairs x p y q) i v group l = out-stops x i _
+  set-stops (Direct w r) i v group l = out-stops w v _
+  set-stops (Turns p r) i v group l = in-stops 0x3BA _
+  set-stops Nowhere i v group l = absurd l
+
+  field-stops : (w : Ways) (i k s group : ℕ) → Leads true (groupAt group) i w → Stops (fieldBy w i k s)
+  field-stops (Pair x p) i k s group l = out-stops x i _
+  field-stops (Pairs x p y q) i k s group l = out-stops x i _
+  field-stops (Direct w r) i k s group l = in-stops r _
+  field-stops (Turns p r) i k s group l = in-stops 0x3BA _
+  field-stops Nowhere i k s group l = absurd l
+
+  step-stops : (s : Step) → legal s ≡ true → Stops (expanded s)
+  unfolding expanded legal
+  step-stops (Set group i v) lawful = set-stops (ways group) i v group (leads true group i lawful)
+  step-stops (Field group i v m) lawful = field-stops (ways group) i _ v group (leads true group i (and-both (names group i) (within v m) lawful .0))
+  step-stops (Colour e r g b) lawful = out-stops 0x3C8 e _
+
+  pub steps-stop : (ss : List Step) → AllLegal ss → 0 < length ss → runFrom c 0 0 (length (commandsOf ss)) (knowns (commandsOf ss)) ≡ ranTo c 0 (Stopped 0 Closed)
+  unfolding commandsOf
+  steps-stop [] lawful some = absurd (omega arith)
+  steps-stop (s ∷ ss) lawful some = step-stops s (lawful .0) .at-once (commandsOf ss)

@@ -1,0 +1,126 @@
+-- Demand 3. A script's steps are legal, so their commands do what they say one step after the other (`script-sent`); a run whose
+-- limit ends with a step's commands stands where those commands leave it. The only fact about the state is that its ports
+-- are open, which every state reached from a reset with CFG1 = 1 has.
+use Prim.Native.Nat.{ℕ, zero, suc, _+_, _≤_}
+use native.Mathlib.Omega.{arith}
+use mathlib.Core.Bool.{true}
+use mathlib.Core.Path.{_≡_, refl, _∙_, ap, sym}
+use mathlib.Core.List.{List, [], _∷_, _++_, append-nil}
+use lib.ListN.{length}
+use Rattle.chip.specs.State.{Named, named, join}
+use Rattle.chip.specs.Names.{received, portsOpen}
+use Rattle.chip.specs.Palette.{coloured}
+use Rattle.chip.proofs.ReachLaws.{ports-stay}
+use Rattle.chip.specs.declared.Chip.{Chip}
+use Rattle.chip.specs.declared.Indexes.{Indexes}
+use Rattle.chip.specs.declared.Loading.{Loading}
+use Rattle.script_steps.specs.Step.{legal}
+use Rattle.script_steps.specs.declared.Step.{Step}
+use Rattle.script_steps.specs.declared.Step.the-variants.{Set, Field, Colour}
+use Rattle.script.specs.File.{checked}
+use Rattle.script.proofs.Reading.{accepted-handed}
+use Rattle.script.specs.declared.Checked.the-variants.{Accepted}
+use Rattle.script_commands.specs.Command.{bytesOfAll}
+use Rattle.script_commands.specs.Expansion.{commandsOf}
+use Rattle.script_commands.specs.Translation.{stepsTo, commandsTo, begins}
+use Rattle.script_commands.proofs.Counted.{steps-split}
+use Rattle.script_commands.proofs.Expanding.{commands-append}
+use Rattle.script_commands.specs.declared.Command.{Command}
+use Rattle.chip_run.specs.Run.{ran, runFrom, ranTo}
+use Rattle.chip_run.proofs.RunLaws.{knowns, run-append, run-commands, at-limit, Stands}
+use Rattle.chip_run.specs.declared.Ending.the-variants.{Ended}
+use Rattle.chip_play.specs.ByName.{applied, appliedAll}
+use Rattle.chip_play.specs.Demand3.{ranSteps, AfterSteps, Demand-3}
+use Rattle.chip_play.proofs.Sends.{Sends, Any, sends-append, sends-none, knowns-append}
+use Rattle.chip_play.proofs.Reaching.{open-received, open-coloured}
+use Rattle.chip_play.proofs.StepsSent.{step-sent}
+
+-- ---- a list of legal steps
+abbrev pub AllLegal : List Step → Type 0
+AllLegal [] = Unit {0}
+AllLegal (s ∷ ss) = (legal s ≡ true) × AllLegal ss
+
+open-applied : (s : Step) (n : Named) → portsOpen (applied s n) ≡ portsOpen n
+unfolding applied
+open-applied (Set g i v) n = open-received _ n i v
+open-applied (Field g i v m) n = open-received _ n i _
+open-applied (Colour e r g b) n = open-coloured n e r g b
+
+-- no step says anything of the picture
+picture-applied : (s : Step) (n : Named) → applied s n .picture ≡ n .picture
+unfolding applied received coloured
+picture-applied (Set g i v) n = refl
+picture-applied (Field g i v m) n = refl
+picture-applied (Colour e r g b) n = refl
+
+picture-stays : (ss : List Step) (n : Named) → appliedAll ss n .picture ≡ n .picture
+unfolding appliedAll
+picture-stays [] n = refl
+picture-stays (s ∷ ss) n = picture-stays ss (applied s n) ∙ picture-applied s n
+
+pub script-sent : (ss : List Step) (n : Named) → AllLegal ss → portsOpen n ≡ true → Sends Any n (commandsOf ss) (appliedAll ss n) Any
+unfolding commandsOf appliedAll
+script-sent [] n lawful free = sends-none n
+script-sent (s ∷ ss) n lawful free =
+    sends-append (step-sent s n (lawful .0) free) (script-sent ss (applied s n) (lawful .1) (open-applied s n ∙ free))
+
+-- ---- the steps of an accepted file
+all-legal-append : (ss ts : List Step) → AllLegal ss → AllLegal ts → AllLegal (ss ++ ts)
+all-legal-append [] ts h k = k
+all-legal-append (s ∷ ss) ts h k = (h .0, all-legal-append ss ts (h .1) k)
+
+pub steps-legal : (f : List ℕ) (m : ℕ) → checked f ≡ Accepted m → (n : ℕ) → n ≤ m → AllLegal (stepsTo f n)
+unfolding stepsTo
+steps-legal f m acc zero room = tt
+steps-legal f m acc (suc n) room =
+    let h = accepted-handed f m acc n (omega arith) in
+    all-legal-append (stepsTo f n) _ (steps-legal f m acc n (omega arith)) (rw (h .answer) (h .lawful, tt))
+
+-- ---- the run
+length-knowns : (cs : List Command) → length (knowns cs) ≡ length cs
+length-knowns [] = refl
+length-knowns (c ∷ cs) = ap suc (length-knowns cs)
+
+module _ (f : List ℕ) (m : ℕ) (acc : checked f ≡ Accepted m) (c : Chip) (free : portsOpen (named c) ≡ true) where
+  -- the run up to the commands of the first n steps stands where these leave it
+  stands : (n : ℕ) → n ≤ m → (x : Indexes) × (l : Loading) × Stands (ranSteps c f m n) (join (appliedAll (stepsTo f n) (named c)) x l) (begins f n)
+  stands n room =
+      let (rest, split) = steps-split f m n room in
+      let cs = commandsTo f n in
+      let (x, l, a, h, _) = script-sent (stepsTo f n) (named c) (steps-legal f m acc n room) free .runs (c .indexes) (c .loading) 0 tt in
+      let d : Chip = join (appliedAll (stepsTo f n) (named c)) x l in
+      let k : length (knowns cs) ≡ begins f n = length-knowns cs in
+      let parts : knowns (commandsTo f m) ≡ knowns cs ++ knowns (commandsOf rest) =
+      ap (λ (ss : List Step). knowns (commandsOf ss)) split ∙ ap knowns (commands-append (stepsTo f n) rest) ∙ knowns-append cs (commandsOf rest) in
+      let e : ranSteps c f m n ≡ runFrom d a (begins f n) 0 (knowns (commandsOf rest)) =
+      run-commands c (commandsTo f m) (begins f n) ∙ ap (runFrom c 0 0 (begins f n)) parts
+      ∙ run-append (knowns cs) (knowns (commandsOf rest)) c d 0 a 0 (begins f n) (begins f n) 0 (omega arith) (omega arith) h in
+      (x, l, rw e (at-limit d a (begins f n) (knowns (commandsOf rest))))
+
+  pub after-steps : (n : ℕ) → n ≤ m → AfterSteps c f m n
+  after-steps n room =
+      let (x, l, s) = stands n room in
+      record {
+        count = s .count;
+        unrefused = s .unrefused;
+        byName = ap named (s .chip);
+        picture = ap (λ (d : Chip). d .picture) (s .chip) ∙ picture-stays (stepsTo f n) (named c);
+      }
+
+  -- the run of all its commands ends
+  pub whole-run : (x : Indexes) × (l : Loading)
+      × (ran c (bytesOfAll (commandsTo f m)) (begins f m) ≡ ranTo (join (appliedAll (stepsTo f m) (named c)) x l) (begins f m) Ended)
+  unfolding runFrom
+  whole-run =
+      let cs = commandsTo f m in
+      let (x, l, a, h, _) = script-sent (stepsTo f m) (named c) (steps-legal f m acc m (omega arith)) free .runs (c .indexes) (c .loading) 0 tt in
+      let k : length (knowns cs) ≡ begins f m = length-knowns cs in (
+        x,
+        l,
+        run-commands c cs (begins f m) ∙ ap (runFrom c 0 0 (begins f m)) (sym (append-nil (knowns cs)))
+            ∙ run-append (knowns cs) [] c (join (appliedAll (stepsTo f m) (named c)) x l) 0 a 0 (begins f m) (begins f m) 0 (omega arith) (omega arith) h,
+      )
+
+-- ---- the theorem
+pub demand-3 : Demand-3
+demand-3 = record { holds = λ file m acc first second strapped c reach n room. after-steps file m acc c (ports-stay reach ∙ strapped) n room }

@@ -1,0 +1,117 @@
+-- The port that takes index and data by turns: what the five commands that write its index do, from any state, and then a byte or a
+-- change. Reading both status ports returns the turn whichever is picked; the index is written with bit 5 as it was, so the picture
+-- stays. Document 02, P1.
+use Prim.Native.Nat.{ℕ, _+_, _%_, _/_, _<_}
+use native.Mathlib.Nat.{add-comm}
+use native.Mathlib.Omega.{arith}
+use mathlib.Core.Bool.{Bool, true, false, cond}
+use mathlib.Core.Path.{_≡_, refl, _∙_, ap}
+use mathlib.Core.List.{List, [], _∷_}
+use lib.Bits.{bitAnd, bitOr, and-zero-r, or-zero-l, and-block, and-shifted, and-comm, or-shifted}
+use Rattle.lists.specs.Bits.{isSet}
+use Rattle.chip_registers.specs.Indexes.{indexKept}
+use Rattle.chip_registers.specs.declared.Group.the-variants.{Ar}
+use Rattle.chip_ports.specs.Ports.{ports, target}
+use Rattle.chip_ports.specs.declared.Target.the-variants.{Data, Attribute, Status}
+use Rattle.chip.specs.State.{Named, join, withTurn, indexOf, withIndex}
+use Rattle.chip.specs.Names.{register, received, portsOpen, colour}
+use Rattle.chip.specs.Attribute.{attributeIndex, attributeAimed}
+use Rattle.chip.specs.Access.{portWritten, portRead}
+use Rattle.chip.specs.declared.Indexes.{Indexes}
+use Rattle.chip.specs.declared.Loading.{Loading}
+use Rattle.script_commands.specs.Expansion.{turned, change}
+use Rattle.script_commands.specs.declared.Command.the-variants.{Out, In, OutAcc}
+use Rattle.script_commands.specs.declared.CommandRead.{CommandRead}
+use Rattle.script_commands.specs.declared.CommandRead.the-variants.{Known}
+use Rattle.chip_run.specs.Run.{one, done, carry}
+use Rattle.chip_play.proofs.Sends.{Sends, Any, At, idle-in, fetch, merged, ended}
+
+-- ---- the index that is written: bit 5 of the one that was read, and the register's
+keep-bit : (lit : Bool) (low i : ℕ) → low < 32 → i < 32 → bitOr (bitAnd (low + cond lit 0x20 0x00) 0x20) i ≡ cond lit 0x20 0x00 + i
+keep-bit true low i h k =
+    ap (λ (t : ℕ). bitOr t i)
+    (ap (λ (t : ℕ). bitAnd t 0x20) (add-comm low 0x20) ∙ and-block 5 1 1 low 0 h (omega arith) ∙ ap (λ (t : ℕ). 0x20 + t) (and-zero-r low))
+    ∙ or-shifted 1 5 i k
+keep-bit false low i h k =
+    let e : low + 0 ≡ low = omega arith in
+    rw (e, and-comm low 0x20, and-shifted 1 5 low h) (or-zero-l i ∙ omega arith)
+
+kept-picture : (lit : Bool) (i : ℕ) → i < 32 → isSet 5 (cond lit 0x20 0x00 + i) ≡ lit
+kept-picture true i h = let e : (0x20 + i) / 32 % 2 ≡ 1 = omega arith in rw e
+kept-picture false i h = let e : (0x00 + i) / 32 % 2 ≡ 0 = omega arith in rw e
+
+kept-low : (lit : Bool) (i : ℕ) → indexKept Ar (cond lit 0x20 0x00 + i) ≡ indexKept Ar i
+unfolding indexKept
+kept-low true i = omega arith
+kept-low false i = omega arith
+
+-- ---- one command at the head of a list
+module _ (n : Named) (x : Indexes) (l : Loading) (a : ℕ) (rs : List CommandRead) (free : portsOpen n ≡ true) (b : Bool) (picks : colour n ≡ b) (p : ℕ) where
+  turn-back : target b false p ≡ Status → carry (join n x l) a (Known (In p) ∷ rs) ≡ carry (join n (withTurn x false) l) 0x00 rs
+  unfolding carry one done portRead
+  turn-back h = rw (free, picks, h)
+
+  see-index : target b false p ≡ Attribute → carry (join n x l) a (Known (In p) ∷ rs) ≡ carry (join n x l) (attributeIndex (join n x l)) rs
+  unfolding carry one done portRead
+  see-index h = rw (free, picks, h)
+
+  aim-acc : target b true p ≡ Attribute → x .turn ≡ false → carry (join n x l) a (Known (OutAcc p) ∷ rs) ≡ carry (attributeAimed (join n x l) a) a rs
+  unfolding carry one done portWritten
+  aim-acc h t = rw (free, picks, h, t)
+
+  -- a byte to the register, at the turn of data
+  module _ (leads : target b true p ≡ Attribute) (turn : x .turn ≡ true) (i : ℕ) (at : indexOf Ar x ≡ i) where
+    give : (v : ℕ) → carry (join n x l) a (Known (Out p v) ∷ rs) ≡ carry (join (received Ar n i v) (withTurn x false) l) a rs
+    unfolding carry one done portWritten
+    give v = rw (free, picks, leads, turn, at)
+
+    give-acc : carry (join n x l) a (Known (OutAcc p) ∷ rs) ≡ carry (join (received Ar n i a) (withTurn x false) l) a rs
+    unfolding carry one done portWritten
+    give-acc = rw (free, picks, leads, turn, at)
+
+-- the attribute index is i, and data comes next
+abbrev pub AtData : ℕ → Indexes → Type 0
+AtData i x = At Ar i x × (x .turn ≡ true)
+
+module _ (n : Named) (free : portsOpen n ≡ true) where
+  -- both status ports are read: the turn is the index's
+  both-read : (b : Bool) → colour n ≡ b → (x : Indexes) (l : Loading) (a : ℕ) (rs : List CommandRead)
+      → carry (join n x l) a (Known (In 0x3BA) ∷ Known (In 0x3DA) ∷ rs) ≡ carry (join n (withTurn x false) l) (cond b 0x00 0xFF) rs
+  unfolding target ports
+  both-read true picks x l a rs = idle-in n x l a _ free true picks 0x3BA refl ∙ turn-back n x l _ rs free true picks 0x3DA refl
+  both-read false picks x l a rs = turn-back n x l a _ free false picks 0x3BA refl ∙ idle-in n _ l _ rs free false picks 0x3DA refl
+
+  module _ (b : Bool) (picks : colour n ≡ b) (p : ℕ) (writes : target b true p ≡ Attribute) (i : ℕ) (fits : i < 32) where
+    -- the index is written, and the picture stays
+    pub aims : target b false p ≡ Attribute → Sends Any n (turned p i) n (AtData i)
+    unfolding indexKept
+    aims reads = record {
+      runs = λ x l a _. (
+        withTurn (withIndex Ar x i) true,
+        l,
+        cond (n .picture) 0x20 0x00 + i,
+        both-read b picks x l a _ ∙ see-index n (withTurn x false) l _ _ free b picks p reads ∙ merged _ _ 0x20 i _
+            ∙ ap (λ (v : ℕ). carry (join n (withTurn x false) l) v (Known (OutAcc p) ∷ [])) (keep-bit (n .picture) (indexOf Ar x) i (omega arith) fits)
+            ∙ aim-acc n (withTurn x false) l _ [] free b picks p writes refl
+            ∙ rw (kept-picture (n .picture) i fits, kept-low (n .picture) i) (ended _ _),
+        (omega arith, refl),
+      );
+    }
+
+    -- then a byte, or a change
+    pub gives : (v : ℕ) → Sends (AtData i) n (Out p v ∷ []) (received Ar n i v) (At Ar i)
+    gives v = record {
+      runs = λ x l a h. (withTurn x false, l, a, give n x l a [] free b picks p writes (h .1) i (h .0) v ∙ ended _ _, h .0);
+    }
+
+    pub gives-change : (r k s : ℕ) → target b false r ≡ Data Ar
+        → Sends (AtData i) n (change p r k s) (received Ar n i (bitOr (bitAnd (register Ar n i) k) s)) (At Ar i)
+    gives-change r k s reads = record {
+      runs = λ x l a h. (
+        withTurn x false,
+        l,
+        _,
+        fetch n x l a _ free b picks r Ar i (h .0) reads ∙ merged _ _ k s _ ∙ give-acc n x l _ [] free b picks p writes (h .1) i (h .0) ∙ ended _ _,
+        h .0,
+      );
+    }

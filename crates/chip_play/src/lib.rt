@@ -1,0 +1,49 @@
+// A script file played on a chip: translated into a lent buffer and run whole. Demand 3 is said in
+// specs/Demand3 and proved in proofs/Demand3; the entry here carries it.
+ghost use mathlib.Core.Path.{_≡_};
+ghost use lib.ListN.{length};
+ghost use Rattle.script_commands.specs.Translation.{translated, leftBy};
+ghost use Rattle.chip_play.specs.Played.{played, ByName, ofOutcome, playTable};
+use chip::Chip;
+use chip_run::Ending;
+use chip_run::run;
+use script::Refusal;
+use script_commands::Translated;
+use script_commands::translate;
+
+// What became of a script: it was refused, or its commands were run, so many of them, to this ending.
+pub enum Outcome {
+    NotPlayed(Refusal),
+    Played(usize, Ending),
+}
+
+// The state after a script, and what became of it.
+pub struct Performance {
+    pub chip: Chip,
+    pub outcome: Outcome,
+}
+
+// A script file on a chip. The buffer is lent for the commands, 32 bytes a step.
+pub fn play(chip: Chip, file: &[u8], buffer: &mut [u8]) -> Performance
+    ensures { λ r. ⌜ r ≡ played chip (now (file .entry)) (length (now (buffer .entry))) ⌝ }
+    ensures { λ r. ⌜ ByName chip (now (file .entry)) (length (now (buffer .entry))) r ⌝ }
+    ensures { λ _. ⌜ now (buffer .exit) ≡ leftBy (translated (now (file .entry)) (length (now (buffer .entry)))) (now (file .entry)) (now (buffer .entry)) ⌝ }
+    ensures { λ r. ⌜ ofOutcome (r .outcome) ≡ playTable chip (now (file .entry)) (length (now (buffer .entry))) ⌝ }
+{
+    match translate(file, buffer) {
+        Translated::Refused(why) => Performance {
+            chip,
+            outcome: Outcome::NotPlayed(why),
+        },
+        Translated::Commands(k) => {
+            let end = 4 * k;
+            let ran = run(chip, &buffer[..end], k);
+            let next = ran.chip;
+            let ending = ran.ending;
+            Performance {
+                chip: next,
+                outcome: Outcome::Played(ran.count, ending),
+            }
+        }
+    }
+}

@@ -1,0 +1,29 @@
+-- Chapter 12 of the databook, attribute controller registers: the 21 that its list has, in the order of their indexes. Document 02, P1.
+-- A row is index, title, writable bits, reset byte. The chapter gives no reset, so it is 00h.
+use mathlib.Core.List.{List, [], _∷_}
+use Rattle.chip_registers.specs.Rows.{Register, reg}
+
+unfoldable pub AR : List Register
+AR =
+    reg 0x00 "Color Data 0" 0x3F 0x00
+    ∷ reg 0x01 "Color Data 1" 0x3F 0x00
+    ∷ reg 0x02 "Color Data 2" 0x3F 0x00
+    ∷ reg 0x03 "Color Data 3" 0x3F 0x00
+    ∷ reg 0x04 "Color Data 4" 0x3F 0x00
+    ∷ reg 0x05 "Color Data 5" 0x3F 0x00
+    ∷ reg 0x06 "Color Data 6" 0x3F 0x00
+    ∷ reg 0x07 "Color Data 7" 0x3F 0x00
+    ∷ reg 0x08 "Color Data 8" 0x3F 0x00
+    ∷ reg 0x09 "Color Data 9" 0x3F 0x00
+    ∷ reg 0x0A "Color Data A" 0x3F 0x00
+    ∷ reg 0x0B "Color Data B" 0x3F 0x00
+    ∷ reg 0x0C "Color Data C" 0x3F 0x00
+    ∷ reg 0x0D "Color Data D" 0x3F 0x00
+    ∷ reg 0x0E "Color Data E" 0x3F 0x00
+    ∷ reg 0x0F "Color Data F" 0x3F 0x00
+    ∷ reg 0x10 "Mode Control" 0xEF 0x00
+    ∷ reg 0x11 "Overscan Color" 0xFF 0x00
+    ∷ reg 0x12 "Memory Plane Enable" 0x3F 0x00
+    ∷ reg 0x13 "Horizontal Pixel Panning" 0x0F 0x00
+    ∷ reg 0x14 "Color Select" 0x0F 0x00
+    ∷ []

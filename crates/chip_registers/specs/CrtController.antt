@@ -1,0 +1,53 @@
+-- Chapter 9 of the databook, CRT controller registers: the 44 that its list has, in the order of their indexes.
+-- A row is index, title, writable bits, reset byte.
+-- docs/DATABOOK.md names the rows that could be read otherwise.
+use mathlib.Core.List.{List, [], _∷_}
+use Rattle.chip_registers.specs.Rows.{Register, reg}
+
+unfoldable pub CR : List Register
+CR =
+    reg 0x00 "Horizontal Total" 0xFF 0x00
+    ∷ reg 0x01 "Horizontal Display Enable End" 0xFF 0x00
+    ∷ reg 0x02 "Horizontal Blanking Start" 0xFF 0x00
+    ∷ reg 0x03 "Horizontal Blanking End" 0x7F 0x80
+    ∷ reg 0x04 "Horizontal Sync Start" 0xFF 0x00
+    ∷ reg 0x05 "Horizontal Sync End" 0xFF 0x00
+    ∷ reg 0x06 "Vertical Total" 0xFF 0x00
+    ∷ reg 0x07 "Overflow" 0xFF 0x00
+    ∷ reg 0x08 "Preset Row Scan" 0x7F 0x00
+    ∷ reg 0x09 "Maximum Scanline" 0xFF 0x00
+    ∷ reg 0x0A "Text Cursor Start Scanline" 0x3F 0x00
+    ∷ reg 0x0B "Text Cursor End Scanline" 0x7F 0x00
+    ∷ reg 0x0C "Start Address High" 0xFF 0x00
+    ∷ reg 0x0D "Start Address Low" 0xFF 0x00
+    ∷ reg 0x0E "Text Cursor Location High" 0xFF 0x00
+    ∷ reg 0x0F "Text Cursor Location Low" 0xFF 0x00
+    ∷ reg 0x10 "Vertical Sync Start" 0xFF 0x00
+    ∷ reg 0x11 "Vertical Sync End" 0xBF 0x00
+    ∷ reg 0x12 "Vertical Display Enable End" 0xFF 0x00
+    ∷ reg 0x13 "Offset" 0xFF 0x00
+    ∷ reg 0x14 "Underline Row" 0x7F 0x00
+    ∷ reg 0x15 "Vertical Blanking Start" 0xFF 0x00
+    ∷ reg 0x16 "Vertical Blanking End" 0xFF 0x00
+    ∷ reg 0x17 "CRT Mode Control" 0xEF 0x00
+    ∷ reg 0x18 "Line Compare" 0xFF 0x00
+    ∷ reg 0x22 "Memory Read Latch Data" 0x00 0x00
+    ∷ reg 0x30 "Extended Vertical Total" 0x0F 0x00
+    ∷ reg 0x31 "Extended Vertical Display End" 0x0F 0x00
+    ∷ reg 0x32 "Extended Vertical Sync Start" 0x0F 0x00
+    ∷ reg 0x33 "Extended Vertical Blanking Start" 0x0F 0x00
+    ∷ reg 0x38 "Extended Horizontal Total" 0x01 0x00
+    ∷ reg 0x3C "Extended Horizontal Blanking End" 0xC0 0x00
+    ∷ reg 0x40 "Extended Start Address" 0x8F 0x00
+    ∷ reg 0x41 "Extended Offset" 0x0F 0x00
+    ∷ reg 0x70 "Interlace Control" 0xFF 0x00
+    ∷ reg 0x71 "NTSC/PAL Video Output Control" 0xFF 0x00
+    ∷ reg 0x72 "NTSC/PAL Horizontal Serration 1 Start" 0xFF 0x00
+    ∷ reg 0x73 "NTSC/PAL Horizontal Serration 2 Start" 0xFF 0x00
+    ∷ reg 0x74 "NTSC/PAL Horizontal Pulse Width" 0x3F 0x00
+    ∷ reg 0x75 "NTSC/PAL Filtering Burst Read Length" 0xFF 0x00
+    ∷ reg 0x76 "NTSC/PAL Filtering Burst Read Quantity" 0xFF 0x00
+    ∷ reg 0x77 "NTSC/PAL Filtering Control" 0xFF 0x00
+    ∷ reg 0x78 "NTSC/PAL Vertical Reduction" 0x9F 0x00
+    ∷ reg 0x79 "NTSC/PAL Pixel Resolution Fine Adjust" 0xFF 0x00
+    ∷ []

@@ -1,0 +1,25 @@
+-- By the kind of command.
+use Rattle.chip_run.specs.Run.{done}
+use borrow.Author.Needs.{needs}
+use Rattle.chip_run.proofs.carry_out.Statement.{statement}
+use Rattle.chip_run.proofs.carry_out.Tie as tie
+
+pub carry-out-spec : {M : Type 1} → statement M
+unfolding done
+carry-out-spec =
+    tie.close
+    (tie.spec
+    (λ c. search needs)
+    (λ c κs. search needs)
+    (λ c κs. search needs)
+    (λ c. search needs)
+    (λ c κs. search needs)
+    (λ c κs. search needs)
+    (λ c. search needs)
+    (λ c. search needs)
+    (λ c κs. search needs)
+    (λ c κs. search needs)
+    (λ c. rw (c .judge .ensures, c .before .before .write .ensures .0, c .before .before .before .before .c .given .1))
+    (λ c. rw (c .judge2 .ensures, c .before .before .read .ensures .0, c .before .before .before .before .c2 .given .1))
+    (λ c. rw (c .before .c3 .given .1))
+    (λ c. rw (c .judge3 .ensures, c .before .before .write2 .ensures .0, c .before .before .before .before .c4 .given .1)))

@@ -1,0 +1,27 @@
+-- One store, or two after blue.
+use borrow.Author.Tests.{ne-eqb}
+use Rattle.lent_chip.specs.Layout.{view, cell}
+use Rattle.lent_chip.proofs.Holding.{as-it-is, now-holds, then-single}
+use native.Mathlib.Omega.{arith}
+use borrow.Author.Needs.{needs}
+use Rattle.lent_chip.proofs.step.Statement.{statement}
+use Rattle.lent_chip.proofs.step.Tie as tie
+
+pub step-spec : {M : Type 1} → statement M
+unfolding view cell
+step-spec =
+    tie.close
+    (tie.spec
+    (λ c. search needs)
+    (λ c. search needs)
+    (λ c κs. search needs)
+    (λ c. search needs)
+    (λ c. search needs)
+    (λ c. search needs)
+    (λ c. search needs)
+    (λ c. search needs)
+    (λ c. now-holds (then-single 10 0 (then-single 9 _ (as-it-is (c .before .before .before .before .before .pre)) (omega arith)) (omega arith)) (rw (c .wrapping-add-u8 .ensures, c .before .before .if1 .taken)))
+    (λ c. search needs)
+    (λ c. now-holds (then-single 10 2 (as-it-is (c .before .before .before .before .pre)) (omega arith)) (rw (c .if2 .taken)))
+    (λ c. search needs)
+    (λ c. now-holds (then-single 10 1 (as-it-is (c .before .before .before .before .pre)) (omega arith)) (simp (ne-eqb _ _ (c .before .if1 .left), ne-eqb _ _ (c .if2 .left)))))

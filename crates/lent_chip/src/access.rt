@@ -1,0 +1,236 @@
+// Port reads and writes on lent bytes, in place. Document 01, "Ports" and numbers 0, 1 and 2, and document 02, P1,
+// for the attribute registers, and P5, for the bits of an index. The text is that of crate `chip`'s methods, each
+// callee working on the bytes. A refused access changes no byte.
+ghost use mathlib.Core.Path.{_≡_};
+ghost use Prim.Native.Nat.{_/_, _%_};
+ghost use lib.ListN.{length};
+ghost use Rattle.chip.specs.State.{withIndexes, indexByte, indexOf, withIndex};
+ghost use Rattle.chip.specs.Access.{portWritten, portRead};
+ghost use Rattle.lent_chip.specs.Layout.{whole, view, spare, Holds};
+ghost use Rattle.lent_chip.specs.Accesses.{Left, writeAnswer, readAnswer, WroteIn, ReadIn};
+ghost use Rattle.lent_chip.specs.Numbers.{answerOf, writeNumber, readWord};
+use crate::aim;
+use crate::attribute_index;
+use crate::get;
+use crate::is_colour;
+use crate::is_open;
+use crate::load;
+use crate::paldata;
+use crate::palstate;
+use crate::put;
+use crate::set_turn;
+use crate::step;
+use crate::write_attribute;
+use chip::access::Answer;
+use chip_ports::Target;
+use chip_ports::leads_to;
+use chip_registers::Group;
+use chip_registers::index_kept;
+
+// How many bytes a state has.
+pub const STATE: usize = 2574;
+
+// What a port write answers.
+pub enum Written {
+    Answered(Answer),
+    // The bytes are no state: their length is wrong.
+    Length,
+}
+
+// What a port read answers; the value is FFh where the chip refuses.
+pub enum Seen {
+    Answered(Answer, u8),
+    // The bytes are no state: their length is wrong.
+    Length,
+}
+
+// Document 01's numbers of an access. On a state an access answers by its number, a read by 256 times the number
+// plus the byte: one number stays in a register, where an enum or a struct would go through memory.
+const DONE: u8 = 0;
+
+const UNLISTED: u8 = 1;
+
+const CLOSED: u8 = 2;
+
+const UNLISTED_WORD: u16 = 0x1FF;
+
+const CLOSED_WORD: u16 = 0x2FF;
+
+// The answer that a number stands for.
+fn answer_of(n: u8) -> Answer
+    ensures { λ r. ⌜ r ≡ answerOf n ⌝ }
+{
+    match n {
+        0 => Answer::Done,
+        1 => Answer::Unlisted,
+        _ => Answer::Closed,
+    }
+}
+
+// The byte that holds a group's index; MSR and PALMASK have none, and stand at 0.
+fn index_byte(state: &[u8], g: Group) -> u8
+    requires { ⌜ length (now state) ≡ whole ⌝ }
+    ensures { λ r. ⌜ r ≡ indexByte g (view (now (state .entry)) .indexes) ⌝ }
+{
+    match g {
+        Group::Cr => state[2562],
+        Group::Sr => state[2563],
+        Group::Gr => state[2564],
+        Group::Xr => state[2565],
+        Group::Fr => state[2566],
+        Group::Mr => state[2567],
+        Group::Msr => 0x00,
+        Group::Palmask => 0x00,
+        Group::Ar => state[2568],
+    }
+}
+
+// A group's index: the bits that its index register has.
+fn index(state: &[u8], g: Group) -> u8
+    requires { ⌜ length (now state) ≡ whole ⌝ }
+    ensures { λ r. ⌜ r ≡ indexOf g (view (now (state .entry)) .indexes) ⌝ }
+{
+    index_kept(g, index_byte(state, g))
+}
+
+// A group's index is written: it keeps the bits that its index register has.
+fn set_index(state: &mut [u8], g: Group, v: u8)
+    requires { ⌜ length (now state) ≡ whole ⌝ }
+    ensures { λ _. ⌜ Holds (now (state .exit)) (withIndexes (view (now (state .entry))) (withIndex g (view (now (state .entry)) .indexes) v)) (spare (now (state .entry))) ⌝ }
+{
+    let kept = index_kept(g, v);
+    match g {
+        Group::Cr => state[2562] = kept,
+        Group::Sr => state[2563] = kept,
+        Group::Gr => state[2564] = kept,
+        Group::Xr => state[2565] = kept,
+        Group::Fr => state[2566] = kept,
+        Group::Mr => state[2567] = kept,
+        Group::Msr => {}
+        Group::Palmask => {}
+        Group::Ar => state[2568] = kept,
+    }
+}
+
+// A port write on a state.
+fn write_in(state: &mut [u8], port: u16, v: u8) -> u8
+    requires { ⌜ length (now state) ≡ whole ⌝ }
+    ensures { λ r. ⌜ WroteIn (now (state .entry)) port v (now (state .exit)) r ⌝ }
+{
+    if !is_open(state) {
+        return CLOSED;
+    }
+    match leads_to(is_colour(state), true, port) {
+        Target::Index(g) => {
+            set_index(state, g, v);
+            DONE
+        }
+        Target::Data(g) => {
+            let i = index(state, g);
+            put(state, g, i, v);
+            DONE
+        }
+        Target::ReadIndex => {
+            aim(state, v, true);
+            DONE
+        }
+        Target::WriteIndex => {
+            aim(state, v, false);
+            DONE
+        }
+        Target::Paldata => {
+            load(state, v);
+            DONE
+        }
+        Target::Attribute => {
+            write_attribute(state, v);
+            DONE
+        }
+        Target::Status => DONE,
+        Target::NotPicked => DONE,
+        Target::NotListed => UNLISTED,
+    }
+}
+
+// A byte that an access shows, as a word.
+fn done(value: u8) -> u16
+    ensures { λ r. ⌜ (r / 256 ≡ 0) × (r % 256 ≡ value) ⌝ }
+{
+    value as u16
+}
+
+// A port read on a state.
+fn read_in(state: &mut [u8], port: u16) -> u16
+    requires { ⌜ length (now state) ≡ whole ⌝ }
+    ensures { λ r. ⌜ ReadIn (now (state .entry)) port (now (state .exit)) r ⌝ }
+{
+    if !is_open(state) {
+        return CLOSED_WORD;
+    }
+    match leads_to(is_colour(state), false, port) {
+        Target::Index(g) => done(index(state, g)),
+        Target::Data(g) => {
+            let i = index(state, g);
+            done(get(state, g, i))
+        }
+        Target::ReadIndex => done(palstate(state)),
+        Target::WriteIndex => done(state[2569]),
+        Target::Paldata => {
+            let v = paldata(state);
+            step(state);
+            done(v)
+        }
+        Target::Attribute => done(attribute_index(state)),
+        Target::Status => {
+            set_turn(state, false);
+            done(0x00)
+        }
+        Target::NotPicked => done(0xFF),
+        Target::NotListed => UNLISTED_WORD,
+    }
+}
+
+// A port write.
+pub fn port_write(state: &mut [u8], port: u16, v: u8) -> Written
+    ensures { λ r. ⌜ r ≡ writeAnswer (now (state .entry)) port v ⌝ }
+    ensures { λ _. ⌜ Left (now (state .entry)) (portWritten (view (now (state .entry))) port v .chip) (spare (now (state .entry))) (now (state .exit)) ⌝ }
+{
+    if state.len() != STATE {
+        return Written::Length;
+    }
+    Written::Answered(answer_of(write_in(state, port, v)))
+}
+
+// A port read.
+pub fn port_read(state: &mut [u8], port: u16) -> Seen
+    ensures { λ r. ⌜ r ≡ readAnswer (now (state .entry)) port ⌝ }
+    ensures { λ _. ⌜ Left (now (state .entry)) (portRead (view (now (state .entry))) port .chip) (spare (now (state .entry))) (now (state .exit)) ⌝ }
+{
+    if state.len() != STATE {
+        return Seen::Length;
+    }
+    let w = read_in(state, port);
+    Seen::Answered(answer_of((w / 256) as u8), (w % 256) as u8)
+}
+
+// A port write that answers by its number alone.
+pub fn write_number(state: &mut [u8], port: u16, v: u8) -> u8
+    ensures { λ r. ⌜ r ≡ writeNumber (writeAnswer (now (state .entry)) port v) ⌝ }
+    ensures { λ _. ⌜ Left (now (state .entry)) (portWritten (view (now (state .entry))) port v .chip) (spare (now (state .entry))) (now (state .exit)) ⌝ }
+{
+    if state.len() != STATE {
+        return 255;
+    }
+    write_in(state, port, v)
+}
+
+// A port read that answers by 256 times its number, plus the byte.
+pub fn read_word(state: &mut [u8], port: u16) -> u16
+    ensures { λ r. ⌜ r ≡ readWord (readAnswer (now (state .entry)) port) ⌝ }
+    ensures { λ _. ⌜ Left (now (state .entry)) (portRead (view (now (state .entry))) port .chip) (spare (now (state .entry))) (now (state .exit)) ⌝ }
+{
+    if state.len() != STATE {
+        return 65535;
+    }
+    read_in(state, port)
+}

@@ -1,0 +1,41 @@
+-- Demand 3 on lent bytes: what the run answers and leaves is that of the run on the chip that they hold, of which crate `play`
+-- says it.
+use Prim.Native.Nat.{ℕ, _≤_}
+use mathlib.Core.Path.{_≡_, ap, _∙_}
+use mathlib.Core.Bool.{true}
+use mathlib.Core.List.{List}
+use lib.ListN.{length}
+use borrow.Author.Tests.{eq-eqb}
+use Rattle.chip.specs.State.{named}
+use Rattle.chip.specs.Names.{portsOpen}
+use Rattle.chip.specs.declared.Chip.{Chip}
+use Rattle.script.specs.File.{checked}
+use Rattle.script.specs.declared.Checked.the-variants.{Accepted}
+use Rattle.script_commands.specs.Command.{bytesOfAll}
+use Rattle.script_commands.specs.Translation.{commandsTo, begins}
+use Rattle.chip_play.specs.Demand3.{ranSteps}
+use Rattle.chip_play.proofs.Demand3.{after-steps}
+use Rattle.lent_chip.specs.Layout.{whole, view, spare}
+use Rattle.lent_chip.specs.Accesses.{Left}
+use Rattle.lent_run.specs.Drive.{driveAnswer}
+use Rattle.lent_run.specs.declared.Driven.{Driven}
+use Rattle.lent_run.specs.declared.Driven.the-variants.{Ran}
+use Rattle.lent_play.specs.Demand3.{AfterStepsIn, Demand-3-in}
+
+after-steps-in : (file : List ℕ) (m : ℕ) → checked file ≡ Accepted m → (l : List ℕ) → length l ≡ whole → portsOpen (named (view l)) ≡ true
+    → (n : ℕ) → n ≤ m → (r : Driven) (after : List ℕ)
+    → r ≡ driveAnswer l (bytesOfAll (commandsTo file m)) (begins file n) → Left l (ranSteps (view l) file m n .chip) (spare l) after
+    → AfterStepsIn l file n r after
+after-steps-in file m acc l size free n room r after gave left =
+    let a = after-steps file m acc (view l) free n room in
+    let held = left .held size in
+    record {
+      ending = ranSteps (view l) file m n .ending;
+      answer = gave ∙ rw (eq-eqb (length l) whole size) (ap (λ (k : ℕ). Ran k (ranSteps (view l) file m n .ending)) (a .count));
+      unrefused = a .unrefused;
+      byName = ap named (held .chip) ∙ a .byName;
+      picture = ap (λ (c : Chip). c .picture) (held .chip) ∙ a .picture;
+    }
+
+pub demand-3-in : Demand-3-in
+demand-3-in = record { holds = after-steps-in }

@@ -1,0 +1,102 @@
+-- From the translation and the run on lent bytes to what `played` says of the chip that they hold; and what that means by name.
+use Prim.Native.Nat.{ℕ}
+use mathlib.Core.Path.{_≡_, refl, ap, sym, _∙_}
+use mathlib.Core.Bool.{cond}
+use mathlib.Core.List.{List}
+use lib.ListN.{length}
+use native.Mathlib.Omega.{arith}
+use borrow.Author.Tests.{eq-eqb, ne-eqb}
+use Rattle.lists.specs.Numbers.{Returned, returned}
+use Rattle.lists.proofs.Tests.{of-cond}
+use Rattle.script.specs.File.{stepCount}
+use Rattle.script.specs.declared.Refusal.{Refusal}
+use Rattle.script_commands.specs.Command.{bytesOfAll}
+use Rattle.script_commands.specs.Translation.{commandsTo, translated, leftBy}
+use Rattle.script_commands.specs.declared.Translated.{Translated}
+use Rattle.script_commands.specs.declared.Translated.the-variants.{Commands, Refused}
+use Rattle.chip_run.specs.Run.{ran}
+use Rattle.chip_run.specs.declared.Ending.{Ending}
+use Rattle.chip_play.specs.Played.{played, performed}
+use Rattle.chip_play.specs.declared.Outcome.{Outcome}
+use Rattle.chip_play.specs.declared.Outcome.the-variants.{NotPlayed, Played}
+use Rattle.chip_play.specs.declared.Performance.{Performance}
+use Rattle.chip_play.proofs.Playing.{played-commands, played-refused, by-name, played-number}
+use Rattle.lent_chip.specs.Layout.{whole, view, spare, Holds}
+use Rattle.lent_chip.specs.Accesses.{isState, Left}
+use Rattle.lent_chip.specs.Numbers.{noState}
+use Rattle.lent_chip.proofs.Holding.{as-it-is}
+use Rattle.lent_chip.proofs.Reached.{left-held, left-kept}
+use Rattle.lent_run.specs.Drive.{driveAnswer}
+use Rattle.lent_run.specs.declared.Driven.{Driven}
+use Rattle.lent_run.specs.declared.Driven.the-variants.{Ran as DrivenRan, Length as DrivenLength}
+use Rattle.lent_play.specs.Perform.{performAnswer, bufferLeft, ByNameIn, ofPerformed, performTable}
+use Rattle.lent_play.specs.declared.Performed.{Performed}
+use Rattle.lent_play.specs.declared.Performed.the-variants.{Met, Length}
+
+-- what the contract says of the answer and the state
+pub record Did (l file : List ℕ) (room : ℕ) (m : List ℕ) (r : Performed) : Type 0 where
+  pub answer : r ≡ performAnswer l file room
+  pub left : Left l (played (view l) file room .chip) (spare l) m
+  pub byName : ByNameIn l file room m r
+
+-- its number and value are those of the table
+perform-number : (l file : List ℕ) (room : ℕ) → ofPerformed (performAnswer l file room) ≡ performTable l file room
+perform-number l file room =
+    of-cond ofPerformed (isState l) (Met (played (view l) file room .outcome)) Length
+    ∙ ap (λ (x : Returned). cond (isState l) x (returned noState 0)) (played-number (view l) file room)
+
+-- what the contract of `perform` says, from that and the buffer
+pub perform-answered : {l file : List ℕ} {room : ℕ} {m : List ℕ} {r : Performed} {out left : List ℕ} → Did l file room m r → out ≡ left
+    → (r ≡ performAnswer l file room) × (Left l (played (view l) file room .chip) (spare l) m × (ByNameIn l file room m r × ((out ≡ left) × (ofPerformed r ≡ performTable l file room))))
+perform-answered {l} {file} {room} d buffer =
+    (d .answer, (d .left, (d .byName, (buffer, ap ofPerformed (d .answer) ∙ perform-number l file room))))
+
+-- a state, with the outcome that `played` has
+module _ (l file : List ℕ) (room : ℕ) {m : List ℕ} (n : length l ≡ whole) (h : Holds m (played (view l) file room .chip) (spare l)) where
+  same : (o : Outcome) → Met (played (view l) file room .outcome) ≡ Met o
+      → _≡_ {A = Performance} (played (view l) file room) (record { chip = view m; outcome = o })
+  same o e = let f : played (view l) file room .outcome ≡ o = cc in λ i. record { chip = sym (h .chip) i; outcome = f i }
+
+  did : {r : Performed} {o : Outcome} → r ≡ Met o → o ≡ played (view l) file room .outcome → Did l file room m r
+  did e f =
+      let a = e ∙ ap Met f in
+      record {
+        answer = rw (eq-eqb (length l) whole n) a;
+        left = left-held n h;
+        byName = record { byName = λ _ o is. rw (← same o (sym a ∙ is)) (by-name (view l) file room) };
+      }
+
+-- bytes that are no state
+pub undone : (l file : List ℕ) (room : ℕ) → (length l ≡ whole → ⊥) → Did l file room l Length
+undone l file room n = record {
+  answer = rw (ne-eqb (length l) whole n) refl;
+  left = left-kept n;
+  byName = record { byName = λ s. absurd (n s) };
+}
+
+-- the run of what the translation left
+module _ (l file : List ℕ) (room : ℕ) {m bytes : List ℕ} {k : ℕ} {x : Driven} (n : length l ≡ whole) (is : translated file room ≡ Commands k)
+    (front : bytes ≡ bytesOfAll (commandsTo file (stepCount file))) (answer : x ≡ driveAnswer l bytes k)
+    (left : Left l (ran (view l) bytes k .chip) (spare l) m) where
+  pub driven : {count : ℕ} {e : Ending} → x ≡ DrivenRan count e → Did l file room m (Met (Played count e))
+  driven {count} {e} gave =
+      let s = eq-eqb (length l) whole n in
+      let c : count ≡ ran (view l) bytes k .count = cc (rw s at answer) in
+      let d : e ≡ ran (view l) bytes k .ending = cc (rw s at answer) in
+      let same : performed (ran (view l) bytes k) ≡ played (view l) file room = played-commands (view l) file room k is front refl in
+      did l file room n (rw (← same) (left .held n)) refl (rw (c, d) (ap (λ (p : Performance). p .outcome) same))
+
+-- on a state the run is never refused for its length
+pub not-length : (l bytes : List ℕ) (k : ℕ) {x : Driven} → length l ≡ whole → x ≡ driveAnswer l bytes k → x ≡ DrivenLength → ⊥
+not-length l bytes k n answer gave = let s = eq-eqb (length l) whole n in let z : _≡_ {A = ℕ} 0 1 = cc (rw s at answer) in omega arith
+
+-- a refused file
+pub unplayed : (l file : List ℕ) (room : ℕ) {why : Refusal} → length l ≡ whole → translated file room ≡ Refused why → Did l file room l (Met (NotPlayed why))
+unplayed l file room {why} n is =
+    let e = played-refused (view l) file room why is in
+    did l file room n (rw (← e) (as-it-is n)) refl (ap (λ (p : Performance). p .outcome) e)
+
+-- the buffer
+pub buffered : (l file buffer : List ℕ) {t : Translated} {out : List ℕ} → length l ≡ whole → t ≡ translated file (length buffer) → out ≡ leftBy t file buffer
+    → out ≡ bufferLeft l file buffer
+buffered l file buffer n e left = rw (eq-eqb (length l) whole n, ← e) left

@@ -1,0 +1,45 @@
+-- The loop's invariant: the commands of the first j steps stand in the output. The reader hands out every step of an accepted
+-- file, so the way out before the last is never taken.
+use Prim.Native.Nat.{_-_, _≤_}
+use mathlib.Core.Path.{_≡_, refl, sym, _∙_}
+use mathlib.Core.Logic.{⊎-elim}
+use lib.ListN.{length}
+use Rattle.script.specs.Reader.{nextOf}
+use Rattle.script.proofs.Reading.{accepted-handed}
+use Rattle.script_commands.specs.Translation.{commandsTo, Sent}
+use Rattle.script_commands.proofs.Expanding.{expanded-most, begins-most}
+use Rattle.script_commands.proofs.Sending.{sent-length}
+use Rattle.script_commands.proofs.Translating.{sent-start, sent-step, steps-put}
+use borrow.Author.Needs.{needs}
+use native.Mathlib.Omega.{arith}
+use Rattle.script_commands.proofs.put_steps.Statement.{statement}
+use Rattle.script_commands.proofs.put_steps.Tie as tie
+
+abbrev Inv-loop : tie.InvT-loop
+Inv-loop file m out₀ at₀ j₀ out at j = Sent out₀ 0 (commandsTo file j) out at × (length out ≡ length out₀) × (j ≤ m)
+
+abbrev μ-loop : tie.MeasureT-loop
+μ-loop file m out₀ at₀ j₀ out at j = m - j
+
+pub put-steps-spec : {M : Type 1} → statement M
+put-steps-spec =
+    tie.close
+    (tie.spec
+    Inv-loop
+    μ-loop
+    (λ c. (sent-start _ _, refl, omega arith))
+    (λ c κs. search needs)
+    (λ c. search needs)
+    (λ c κs. search needs)
+    (λ c. c .before .before .before .before .loop .inv .1)
+    (λ c. let h = accepted-handed _ _ (c .before .before .before .before .before .before .before .pre .0) (c .before .before .before .before .loop .j) (omega arith) in
+    absurd (⊎-elim (λ w. omega arith) (λ w. omega arith) (rw (c .before .before .nth .ensures .0 ∙ h .answer) at (c .before .match .keys2))))
+    (λ c κs. omega (arith, c .before .before .before .before .before .before .loop .inv .0 .next, begins-most (c .before .before .before .before .before .before .before .before .before .args .file .now) (c .before .before .before .before .before .before .loop .j), c .before .before .before .before .before .before .loop .inv .1))
+    (λ c. omega arith)
+    (λ c. omega arith)
+    (λ c. let s : nextOf (c .before .before .before .before .before .before .before .before .before .before .before .before .args .file .now) (c .before .before .before .before .before .before .before .before .before .loop .j) ≡ _ = sym (c .before .before .before .before .before .before .before .nth .ensures .0) ∙ c .before .before .before .before .before .next .given .1 in
+    let room : c .before .before .put-step .result ≤ length (c .before .before .before .before .before .before .before .before .before .before .before .before .args .out .now) = omega (arith, c .before .before .put-step .ensures .next, expanded-most (c .before .before .before .before .before .next .given .0 .0), c .before .before .before .before .before .before .before .before .before .loop .inv .0 .next, begins-most (c .before .before .before .before .before .before .before .before .before .before .before .before .args .file .now) (c .before .before .before .before .before .before .before .before .before .loop .j), c .before .before .before .before .before .before .before .before .before .before .before .before .pre .1) in
+    let same : length (c .before .before .before .before .before .before .before .before .before .loop .out) ≡ length (c .before .before .before .before .before .before .before .before .before .before .before .before .args .out .now) = c .before .before .before .before .before .before .before .before .before .loop .inv .1 in
+    (sent-step _ _ _ _ s (c .before .before .before .before .before .before .before .before .before .loop .inv .0) (c .before .before .put-step .ensures) room, sent-length (c .before .before .put-step .ensures) (omega arith) ∙ same, omega arith))
+    (λ c. c .before .loop .inv .1)
+    (λ c. let all : c .before .loop .j ≡ c .before .before .before .before .args .m = omega arith in steps-put _ _ _ (rw all at (c .before .loop .inv .0))))

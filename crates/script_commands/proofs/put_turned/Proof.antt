@@ -1,0 +1,16 @@
+-- Three, one behind the other.
+use Rattle.script_commands.proofs.Sending.{sent-append}
+use borrow.Author.Needs.{needs}
+use native.Mathlib.Omega.{arith}
+use Rattle.script_commands.proofs.put_turned.Statement.{statement}
+use Rattle.script_commands.proofs.put_turned.Tie as tie
+
+pub put-turned-spec : {M : Type 1} → statement M
+put-turned-spec =
+    tie.close
+    (tie.spec
+    (λ c κs. search needs)
+    (λ c κs. search needs)
+    (λ c κs. search needs)
+    (λ c. search needs)
+    (λ c. sent-append (c .before .before .before .before .before .before .before .before .before .before .put-command .ensures) (sent-append (c .before .before .before .before .before .before .put-command2 .ensures) (c .before .before .put-change .ensures) (omega (arith, c .before .before .before .before .before .before .before .before .before .before .put-command .ensures .next, c .before .before .before .before .before .before .put-command2 .ensures .next, c .before .before .put-change .ensures .next))) (omega (arith, c .before .before .before .before .before .before .before .before .before .before .put-command .ensures .next, c .before .before .before .before .before .before .put-command2 .ensures .next, c .before .before .put-change .ensures .next))))

@@ -1,0 +1,93 @@
+-- A whole script file translated into its commands: document 01, "Commands" and "Numbers returned", 8, 6, 7 or, by document 02, P2, 11,
+-- and 9 in that order.
+-- Where a step's commands begin is how many commands the steps before it have.
+use Prim.Native.Nat.{ℕ, zero, suc, _+_, _*_}
+use mathlib.Core.Bool.{cond}
+use mathlib.Core.Path.{_≡_}
+use mathlib.Core.List.{List, [], _∷_, _++_}
+use lib.Dec.{ltb}
+use lib.ListN.{length}
+use Rattle.lists.specs.Put.{put}
+use Rattle.script_steps.specs.declared.Step.{Step}
+use Rattle.script.specs.File.{stepCount, checked}
+use Rattle.script.specs.Reader.{nextOf}
+use Rattle.lists.specs.Numbers.{Returned, returned}
+use Rattle.script.specs.Numbers.{ofRefusal, checksTable}
+use Rattle.script.specs.declared.Refusal.the-variants.{Room}
+use Rattle.script.specs.declared.Checked.{Checked}
+use Rattle.script.specs.declared.Checked.the-variants.{Accepted, Refused as NotAccepted}
+use Rattle.script.specs.declared.Next.{Next}
+use Rattle.script.specs.declared.Next.the-variants.{Found, Refused as NoStep, End}
+use Rattle.script_commands.specs.Command.{bytesOfAll}
+use Rattle.script_commands.specs.Expansion.{commandsOf}
+use Rattle.script_commands.specs.declared.Command.{Command}
+use Rattle.script_commands.specs.declared.Translated.{Translated}
+use Rattle.script_commands.specs.declared.Translated.the-variants.{Commands, Refused}
+
+-- what the reader hands out, as a list
+abbrev pub handed : Next → List Step
+handed (Found s) = s ∷ []
+handed (NoStep r) = []
+handed End = []
+
+-- the first n steps of a file, as the reader hands them out
+unfoldable pub stepsTo : List ℕ → ℕ → List Step
+stepsTo f zero = []
+stepsTo f (suc n) = stepsTo f n ++ handed (nextOf f n)
+
+-- the commands of the first n steps, and how many they are
+abbrev pub commandsTo : List ℕ → ℕ → List Command
+commandsTo f n = commandsOf (stepsTo f n)
+
+abbrev pub begins : List ℕ → ℕ → ℕ
+begins f n = length (commandsTo f n)
+
+-- an accepted file wants 32 bytes a step, even where its commands would fit in fewer
+abbrev pub ifRoom : Checked → List ℕ → ℕ → Translated
+ifRoom (Accepted m) f room = cond (ltb room (32 * m)) (Refused Room) (Commands (begins f m))
+ifRoom (NotAccepted r) f room = Refused r
+
+unfoldable pub translated : List ℕ → ℕ → Translated
+translated f room = ifRoom (checked f) f room
+
+-- what the lent output then holds: a refusal changes no byte, and bytes after the commands keep their value
+abbrev pub leftBy : Translated → List ℕ → List ℕ → List ℕ
+leftBy (Commands k) f out = put out 0 (bytesOfAll (commandsTo f (stepCount f)))
+leftBy (Refused r) f out = out
+
+-- where the commands of step n of a file begin: how many commands the steps before it have. Past the last step there are no more
+abbrev pub ifAccepted : Checked → List ℕ → ℕ → Translated
+ifAccepted (Accepted m) f n = Commands (begins f n)
+ifAccepted (NotAccepted r) f n = Refused r
+
+unfoldable pub begun : List ℕ → ℕ → Translated
+begun f n = ifAccepted (checked f) f n
+
+-- document 01's number and value for each answer
+abbrev pub numbersOf : Translated → Returned
+numbersOf (Commands k) = returned 0 k
+numbersOf (Refused r) = ofRefusal r
+
+-- the table of numbers for a translation, in its order: 8, 6, 7 or 11, 9
+abbrev pub translationTable : List ℕ → ℕ → Returned
+translationTable f room = checksTable f (cond (ltb room (32 * stepCount f)) (returned 9 0) (returned 0 (begins f (stepCount f))))
+
+-- .. and for where a step's commands begin
+abbrev pub begunTable : List ℕ → ℕ → Returned
+begunTable f n = checksTable f (returned 0 (begins f n))
+
+-- what is answered where the reader hands out no step, after k commands: its refusal, or at the end the commands so far
+abbrev pub withoutStep : Next → ℕ → Translated
+withoutStep (Found s) k = Commands k
+withoutStep (NoStep r) k = Refused r
+withoutStep End k = Commands k
+
+-- the commands of the first m steps of a file stand in front of an output, and are counted
+pub record StepsPut (f : List ℕ) (m : ℕ) (before after : List ℕ) (r : Translated) : Type 0 where
+  pub answer : r ≡ Commands (begins f m)
+  pub bytes : after ≡ put before 0 (bytesOfAll (commandsTo f m))
+
+-- the bytes of commands stand in an output from a place on, and end at another
+pub record Sent (before : List ℕ) (at : ℕ) (cs : List Command) (after : List ℕ) (end : ℕ) : Type 0 where
+  pub bytes : after ≡ put before at (bytesOfAll cs)
+  pub next : end ≡ at + 4 * length cs

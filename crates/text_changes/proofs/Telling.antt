@@ -1,0 +1,95 @@
+-- What the text does not tell is the same in both states: two states of which nothing is told have the same byte in every
+-- register and the same three bytes in every palette entry; and of a state and itself nothing is told.
+use Prim.Native.Nat.{ℕ, zero, suc, _<_}
+use native.Mathlib.Omega.{arith}
+use native.Mathlib.Decide.{ℕ-discrete}
+use mathlib.Core.Bool.{Bool, true, false, cond, _&&_}
+use mathlib.Core.Path.{_≡_, refl, sym, ap, _∙_}
+use mathlib.Core.List.{List, [], _∷_, _++_}
+use lib.Dec.{eqb}
+use lib.ListN.{length, length-append}
+use borrow.Author.Tests.{eqb-true, eq-eqb}
+use Rattle.chip_registers.specs.Groups.{groupAt}
+use Rattle.chip.specs.State.{Named}
+use Rattle.chip.specs.Names.{register}
+use Rattle.chip.specs.Palette.{rgb, entry}
+use Rattle.chip.specs.declared.Rgb.{Rgb}
+use Rattle.text_steps.specs.Written.{nameText, byteText}
+use Rattle.text_registers.specs.Line.{joined}
+use Rattle.text_changes.specs.Changes.{registerLine, registerChange, indexes, registerAt, registersTo, groupsTo, colourLine, sameColour, colourChange, coloursTo, changed}
+
+-- ---- nothing, piece by piece
+empty-left : (a b : List ℕ) → a ++ b ≡ [] → a ≡ []
+empty-left [] b e = refl
+empty-left (x ∷ a) b e = cc
+
+empty-right : (a b : List ℕ) → a ++ b ≡ [] → b ≡ []
+empty-right [] b e = e
+empty-right (x ∷ a) b e = cc
+
+module _ (piece : ℕ → List ℕ) where
+  joined-empty : (n k : ℕ) → k < n → joined piece n ≡ [] → piece k ≡ []
+  unfolding joined
+  joined-empty zero k h e = absurd (omega arith)
+  joined-empty (suc n) k h e = go (ℕ-discrete k n) (λ w. joined-empty n k w (empty-left (joined piece n) (piece n) e))
+    where
+      go : Dec (k ≡ n) → (k < n → piece k ≡ []) → piece k ≡ []
+      go (yes w) before = ap piece w ∙ empty-right (joined piece n) (piece n) e
+      go (no w) before = before (omega arith)
+
+  joined-none : ((k : ℕ) → piece k ≡ []) → (n : ℕ) → joined piece n ≡ []
+  unfolding joined
+  joined-none each zero = refl
+  joined-none each (suc n) = rw (joined-none each n, each n)
+
+-- ---- a line that is not there
+register-silent : (g i old new : ℕ) → registerChange g i old new ≡ [] → old ≡ new
+unfolding registerChange registerLine
+register-silent g i old new e = go (eqb old new) refl e
+  where
+    go : (b : Bool) → eqb old new ≡ b → cond b [] (nameText g i ++ (byteText old ++ byteText new ++ (0x0A ∷ []))) ≡ [] → old ≡ new
+    go true h e = eqb-true _ _ h
+    go false h e = let z = empty-right (nameText g i) (byteText old ++ byteText new ++ (0x0A ∷ [])) e in cc
+
+both : (a b : Bool) → (a && b) ≡ true → (a ≡ true) × (b ≡ true)
+both true b e = (refl, e)
+both false b e = (e, cc)
+
+parts-same : (a b : Rgb) → a .red ≡ b .red → a .green ≡ b .green → a .blue ≡ b .blue → a ≡ b
+parts-same a b r g u =
+    ap (λ (x : ℕ). rgb x (a .green) (a .blue)) r ∙ ap (λ (x : ℕ). rgb (b .red) x (a .blue)) g ∙ ap (λ (x : ℕ). rgb (b .red) (b .green) x) u
+
+colour-silent : (e : ℕ) (old new : Rgb) → colourChange e old new ≡ [] → old ≡ new
+unfolding colourChange colourLine sameColour
+colour-silent e old new w = go (sameColour old new) refl w
+  where
+    go : (b : Bool) → sameColour old new ≡ b → cond b [] (colourLine e old new) ≡ [] → old ≡ new
+    go true h w =
+        let (rg, b) = both (eqb (old .red) (new .red) && eqb (old .green) (new .green)) (eqb (old .blue) (new .blue)) h in
+        let (r, g) = both (eqb (old .red) (new .red)) (eqb (old .green) (new .green)) rg in
+        parts-same old new (eqb-true _ _ r) (eqb-true _ _ g) (eqb-true _ _ b)
+    go false h w = cc
+
+module _ (before after : Named) (silent : changed before after ≡ []) where
+  -- every register; MSR and PALMASK have the index 0
+  pub registers-same : (g i : ℕ) → g < 9 → i < indexes g → register (groupAt g) before i ≡ register (groupAt g) after i
+  unfolding changed
+  registers-same g i hg hi =
+      let e = empty-left (groupsTo before after 9) (coloursTo before after 256) silent in
+      let f = joined-empty (λ (k : ℕ). registersTo before after k (indexes k)) 9 g hg e in
+      register-silent g i _ _ (joined-empty (λ (k : ℕ). registerAt before after g k) (indexes g) i hi f)
+
+  pub colours-same : (e : ℕ) → e < 256 → entry before e ≡ entry after e
+  unfolding changed
+  colours-same e h =
+      let w = empty-right (groupsTo before after 9) (coloursTo before after 256) silent in
+      colour-silent e _ _ (joined-empty (λ (k : ℕ). colourChange k (entry before k) (entry after k)) 256 e h w)
+
+-- of a state and itself nothing is told
+pub changed-none : (n : Named) → changed n n ≡ []
+unfolding changed registerChange colourChange sameColour
+changed-none n =
+    rw (
+      joined-none (λ (g : ℕ). registersTo n n g (indexes g)) (λ g. joined-none (λ (i : ℕ). registerAt n n g i) (λ i. rw (eq-eqb (register (groupAt g) n i) (register (groupAt g) n i) refl)) (indexes g)) 9,
+      joined-none (λ (e : ℕ). colourChange e (entry n e) (entry n e)) (λ e. rw (eq-eqb (entry n e .red) (entry n e .red) refl, eq-eqb (entry n e .green) (entry n e .green) refl, eq-eqb (entry n e .blue) (entry n e .blue) refl)) 256,
+    )

@@ -1,0 +1,19 @@
+-- No room, and room for the longest.
+use native.Mathlib.Omega.{arith}
+use denote.Ref.{now}
+use borrow.Author.Needs.{needs}
+use Rattle.text.proofs.Adding.{none-in, in-added}
+use Rattle.text_from_script.specs.Complaint.{complaint}
+use Rattle.text_from_script.proofs.complain.Statement.{statement}
+use Rattle.text_from_script.proofs.complain.Tie as tie
+
+pub complain-spec : {M : Type 1} → statement M
+complain-spec =
+    tie.close
+    (tie.spec
+    (λ c. let a = c .before .before .args in none-in 80 (now (a .out)) (a .at) (complaint (a .r)) (omega arith))
+    (λ c. search needs)
+    (λ c. let a = c .before .before .before .args in none-in 80 (now (a .out)) (a .at) (complaint (a .r)) (omega arith))
+    (λ c κs. search needs)
+    (λ c. search needs)
+    (λ c. let a = c .before .before .before .before .before .before .before .args in in-added 80 (now (a .out)) (a .at) (complaint (a .r)) (omega arith) (c .before .before .put-complaint .ensures)))

@@ -1,0 +1,192 @@
+// The listing of a script file as text: a header, then a line for each of its commands; or the number of its
+// refusal. Document 01, "The listing program". The definition is specs/Text, with the lines in specs/Line and
+// the digits in the crate text. Reading a file and printing the text is the program listing's.
+ghost use mathlib.Core.Path.{_≡_};
+ghost use mathlib.Core.List.{_++_};
+ghost use Prim.Native.Nat.{_+_, _*_, _≤_};
+ghost use lib.ListN.{length};
+ghost use Rattle.script_commands.specs.Translation.{translated, leftBy as translatedBy};
+ghost use Rattle.text.specs.Digits.{decimal};
+ghost use Rattle.text_listing.specs.Line.{line};
+ghost use Rattle.text_listing.specs.Text.{header, refusal, listed, leftBy, ofListed, listedTable};
+ghost use Rattle.text.specs.Adding.{Added};
+ghost use Rattle.text_listing.specs.Adding.{lineRead, linesTo};
+use script::step_count;
+use script_commands::Command;
+use script_commands::CommandRead;
+use script_commands::Translated;
+use script_commands::command_of;
+use script_commands::translate;
+use text::digit;
+
+// What the listing answers: how many bytes of text there are, or that the output is too short.
+pub enum Listed {
+    Text(usize),
+    Short,
+}
+
+// Bytes behind those that stand in an output that has room for them; where the next one goes.
+fn add(out: &mut [u8], at: usize, bytes: &[u8]) -> usize
+    requires { ⌜ at + length (now bytes) ≤ length (now out) ⌝ }
+    ensures { λ r. ⌜ Added (now (out .entry)) at (now (bytes .entry)) (now (out .exit)) r ⌝ }
+{
+    text::add(out, at, bytes)
+}
+
+// The line of a command.
+fn add_line(out: &mut [u8], at: usize, c: Command) -> usize
+    requires { ⌜ at + 12 ≤ length (now out) ⌝ }
+    ensures { λ r. ⌜ Added (now (out .entry)) at (line c) (now (out .exit)) r ⌝ }
+{
+    match c {
+        Command::Out(port, value) => {
+            let v = value as u16;
+            let text = [
+                b'O',
+                b'U',
+                b'T',
+                b' ',
+                digit(port / 256),
+                digit(port / 16),
+                digit(port),
+                b' ',
+                digit(v / 16),
+                digit(v),
+                b'\n',
+            ];
+            add(out, at, &text)
+        }
+        Command::In(port) => {
+            let text = [
+                b'I',
+                b'N',
+                b' ',
+                digit(port / 256),
+                digit(port / 16),
+                digit(port),
+                b'\n',
+            ];
+            add(out, at, &text)
+        }
+        Command::Merge(keep, set) => {
+            let k = keep as u16;
+            let s = set as u16;
+            let text = [
+                b'M',
+                b'E',
+                b'R',
+                b'G',
+                b'E',
+                b' ',
+                digit(k / 16),
+                digit(k),
+                b' ',
+                digit(s / 16),
+                digit(s),
+                b'\n',
+            ];
+            add(out, at, &text)
+        }
+        Command::OutAcc(port) => {
+            let text = [
+                b'O',
+                b'U',
+                b'T',
+                b'A',
+                b' ',
+                digit(port / 256),
+                digit(port / 16),
+                digit(port),
+                b'\n',
+            ];
+            add(out, at, &text)
+        }
+    }
+}
+
+// The line of what four bytes were read as.
+fn add_read(out: &mut [u8], at: usize, c: CommandRead) -> usize
+    requires { ⌜ at + 12 ≤ length (now out) ⌝ }
+    ensures { λ r. ⌜ Added (now (out .entry)) at (lineRead c) (now (out .exit)) r ⌝ }
+{
+    match c {
+        CommandRead::Known(x) => add_line(out, at, x),
+        CommandRead::Unknown => at,
+    }
+}
+
+// The lines of the first n commands of a list of bytes.
+fn add_lines(out: &mut [u8], from: usize, bytes: &[u8], n: usize) -> usize
+    requires { ⌜ (4 * n ≤ length (now bytes)) × (from + 12 * n ≤ length (now out)) ⌝ }
+    ensures { λ r. ⌜ Added (now (out .entry)) from (linesTo (now (bytes .entry)) n) (now (out .exit)) r ⌝ }
+{
+    let mut at = from;
+    let mut j = 0;
+    while j < n {
+        let p = 4 * j;
+        let c = command_of(bytes[p], bytes[p + 1], bytes[p + 2], bytes[p + 3]);
+        at = add_read(out, at, c);
+        j += 1;
+    }
+    at
+}
+
+// A number in decimal behind what stands in an output that has room for 20 digits.
+fn add_decimal(out: &mut [u8], at: usize, n: usize) -> usize
+    requires { ⌜ at + 20 ≤ length (now out) ⌝ }
+    ensures { λ r. ⌜ Added (now (out .entry)) at (decimal n) (now (out .exit)) r ⌝ }
+{
+    text::add_decimal(out, at, n)
+}
+
+// The header.
+fn add_header(out: &mut [u8], steps: usize, commands: usize) -> usize
+    requires { ⌜ 57 ≤ length (now out) ⌝ }
+    ensures { λ r. ⌜ Added (now (out .entry)) 0 (header steps commands) (now (out .exit)) r ⌝ }
+{
+    let first = add(out, 0, b"steps ");
+    let word = add_decimal(out, first, steps);
+    let second = add(out, word, b" commands ");
+    let end = add_decimal(out, second, commands);
+    add(out, end, b"\n")
+}
+
+// The line of a refusal.
+fn add_refusal(out: &mut [u8], number: usize) -> usize
+    requires { ⌜ 57 ≤ length (now out) ⌝ }
+    ensures { λ r. ⌜ Added (now (out .entry)) 0 (refusal number) (now (out .exit)) r ⌝ }
+{
+    text::add_refused(out, 0, number)
+}
+
+// The header and the lines of k commands.
+fn add_text(out: &mut [u8], steps: usize, bytes: &[u8], k: usize) -> usize
+    requires { ⌜ (4 * k ≤ length (now bytes)) × (57 + 12 * k ≤ length (now out)) ⌝ }
+    ensures { λ r. ⌜ Added (now (out .entry)) 0 (header steps k ++ linesTo (now (bytes .entry)) k) (now (out .exit)) r ⌝ }
+{
+    let at = add_header(out, steps, k);
+    add_lines(out, at, bytes, k)
+}
+
+// The listing of a script file into `out`; its commands go to `work`, which wants 32 bytes a step.
+pub fn list(file: &[u8], work: &mut [u8], out: &mut [u8]) -> Listed
+    ensures { λ r. ⌜ r ≡ listed (now (file .entry)) (length (now (work .entry))) (length (now (out .entry))) ⌝ }
+    ensures { λ r. ⌜ now (out .exit) ≡ leftBy r (now (file .entry)) (length (now (work .entry))) (now (out .entry)) ⌝ }
+    ensures { λ r. ⌜ now (work .exit) ≡ translatedBy (translated (now (file .entry)) (length (now (work .entry)))) (now (file .entry)) (now (work .entry)) ⌝ }
+    ensures { λ r. ⌜ ofListed r ≡ listedTable (now (file .entry)) (length (now (work .entry))) (length (now (out .entry))) ⌝ }
+{
+    match translate(file, work) {
+        Translated::Refused(r) => {
+            if out.len() < 57 {
+                return Listed::Short;
+            }
+            Listed::Text(add_refusal(out, r.number() as usize))
+        }
+        Translated::Commands(k) => {
+            if out.len() < 57 + 12 * k {
+                return Listed::Short;
+            }
+            Listed::Text(add_text(out, step_count(file), work, k))
+        }
+    }
+}

@@ -1,0 +1,23 @@
+-- What differs, and behind it the last line.
+use borrow.Author.Needs.{needs}
+use native.Mathlib.Omega.{arith}
+use Rattle.chip.specs.State.{named}
+use Rattle.text.proofs.Adding.{added-append}
+use Rattle.text_changes.proofs.Lengths.{changed-most}
+use Rattle.text_played.specs.Told.{fresh, tale}
+use Rattle.text_played.proofs.Lengths.{line-most}
+use Rattle.text_played.proofs.put_tale.Statement.{statement}
+use Rattle.text_played.proofs.put_tale.Tie as tie
+
+pub put-tale-spec : {M : Type 1} → statement M
+unfolding tale
+put-tale-spec =
+    tie.close
+    (tie.spec
+    (λ c κs. search needs)
+    (λ c κs. omega (arith, c .before .before .before .put-changes .ensures .next, changed-most (named fresh) (named (c .before .before .before .before .before .before .args .after)), c .before .before .before .before .before .before .pre))
+    (λ c. search needs)
+    (λ c. let a = c .before .before .before .before .before .before .before .before .before .args in
+    let d = c .before .before .before .before .before .before .put-changes .ensures in
+    let e = c .before .before .put-commands .ensures in
+    added-append d e (omega (arith, d .next, e .next, changed-most (named fresh) (named (a .after)), line-most (a .count), c .before .before .before .before .before .before .before .before .before .pre))))

@@ -1,0 +1,17 @@
+-- What is said of what was played on a chip after a reset.
+use borrow.Author.Needs.{needs}
+use Rattle.text_played.specs.Told.{told, left}
+use Rattle.text_played.proofs.tell.Statement.{statement}
+use Rattle.text_played.proofs.tell.Tie as tie
+
+pub tell-spec : {M : Type 1} → statement M
+unfolding told left
+tell-spec =
+    tie.close
+    (tie.spec
+    (λ c κs. search needs)
+    (λ c κs. search needs)
+    (λ c κs. search needs)
+    (λ c. search needs)
+    (λ c. search needs)
+    (λ c. (rw (c .before .before .before .before .before .before .before .play .ensures .0, c .before .before .before .before .before .before .before .before .before .new .ensures) at (c .before .before .say .ensures .0), (rw (c .before .before .before .before .before .before .before .play .ensures .0, c .before .before .before .before .before .before .before .before .before .new .ensures) at (c .before .before .say .ensures .1), c .before .before .before .before .before .before .before .play .ensures .1 .1 .0))))

@@ -1,0 +1,19 @@
+-- No room, and room for the longest name.
+use native.Mathlib.Omega.{arith}
+use denote.Ref.{now}
+use borrow.Author.Needs.{needs}
+use Rattle.text.proofs.Adding.{none-in, in-added}
+use Rattle.text_steps.specs.Written.{nameText}
+use Rattle.text_steps.proofs.add_name.Statement.{statement}
+use Rattle.text_steps.proofs.add_name.Tie as tie
+
+pub add-name-spec : {M : Type 1} → statement M
+add-name-spec =
+    tie.close
+    (tie.spec
+    (λ c. let a = c .before .before .args in none-in 7 (now (a .out)) (a .at) (nameText (a .group) (a .index)) (omega arith))
+    (λ c. search needs)
+    (λ c. let a = c .before .before .before .args in none-in 7 (now (a .out)) (a .at) (nameText (a .group) (a .index)) (omega arith))
+    (λ c κs. search needs)
+    (λ c. search needs)
+    (λ c. let a = c .before .before .before .before .before .before .before .args in in-added 7 (now (a .out)) (a .at) (nameText (a .group) (a .index)) (omega arith) (c .before .before .put-name .ensures)))

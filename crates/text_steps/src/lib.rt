@@ -1,0 +1,285 @@
+// A step as a line of text, for those who write scripts by hand: written, and read; and a register's name alone. The
+// definitions are specs/Written and specs/Reading; that a written step reads back as itself is proofs/ReadBack.
+ghost use mathlib.Core.Path.{_≡_};
+ghost use Prim.Native.Nat.{_+_, _≤_};
+ghost use lib.ListN.{length};
+ghost use Rattle.text.specs.Adding.{withAddedIn, behindIn, Added};
+ghost use Rattle.text_steps.specs.Written.{letter, nameText, byteText, stepText, stepLine};
+ghost use Rattle.text_steps.specs.Reading.{groupOf, indexed, nameOf, setOf, fieldOf, colourOf, stepOf, said, lineOf};
+use lists::byte_at;
+use script_steps::Step;
+use text::add;
+use text::digit;
+use text_tokens::Words;
+use text_tokens::byte_of;
+use text_tokens::is_byte;
+use text_tokens::words_of;
+
+// A register's name: its group and index, or a word that names none.
+pub enum Name {
+    Of(u8, u8),
+    None,
+}
+
+// What a line says: nothing, a step, or what is of another form.
+pub enum Line {
+    Pass,
+    Is(Step),
+    Other,
+}
+
+// The group of two letters, 9 where there is none.
+fn group_of(letters: u64) -> u8
+    ensures { λ r. ⌜ r ≡ groupOf letters ⌝ }
+{
+    match letters {
+        0x4352 => 0,
+        0x5352 => 1,
+        0x4752 => 2,
+        0x5852 => 3,
+        0x4652 => 4,
+        0x4D52 => 5,
+        0x4152 => 8,
+        _ => 9,
+    }
+}
+
+// Two letters and two digits.
+fn indexed_name(letters: u64, digits: u64) -> Name
+    ensures { λ r. ⌜ r ≡ indexed letters digits ⌝ }
+{
+    let group = group_of(letters);
+    let index = byte_of(digits);
+    if is_byte(digits) & (group < 9) {
+        return Name::Of(group, index);
+    }
+    Name::None
+}
+
+// A word read as a register's name.
+pub fn name_of(word: u64) -> Name
+    ensures { λ r. ⌜ r ≡ nameOf word ⌝ }
+{
+    if word == 0x4D5352 {
+        return Name::Of(6, 0);
+    }
+    if word == 0x50414C4D41534B {
+        return Name::Of(7, 0);
+    }
+    indexed_name(word / 65536, word % 65536)
+}
+
+// A name and a byte.
+fn set_of(name: Name, value: u64) -> Line
+    ensures { λ r. ⌜ r ≡ setOf name value ⌝ }
+{
+    let Name::Of(group, index) = name else {
+        return Line::Other;
+    };
+    let byte = byte_of(value);
+    if is_byte(value) {
+        return Line::Is(Step::Set {
+            group,
+            index,
+            value: byte,
+        });
+    }
+    Line::Other
+}
+
+// A name, the mask and the value.
+fn field_of(name: Name, mask: u64, value: u64) -> Line
+    ensures { λ r. ⌜ r ≡ fieldOf name mask value ⌝ }
+{
+    let Name::Of(group, index) = name else {
+        return Line::Other;
+    };
+    let bits = byte_of(mask);
+    let byte = byte_of(value);
+    if is_byte(mask) & is_byte(value) {
+        return Line::Is(Step::Field {
+            group,
+            index,
+            value: byte,
+            mask: bits,
+        });
+    }
+    Line::Other
+}
+
+// Four bytes.
+fn colour_of(entry: u64, red: u64, green: u64, blue: u64) -> Line
+    ensures { λ r. ⌜ r ≡ colourOf entry red green blue ⌝ }
+{
+    let e = byte_of(entry);
+    let r = byte_of(red);
+    let g = byte_of(green);
+    let b = byte_of(blue);
+    if is_byte(entry) & is_byte(red) & is_byte(green) & is_byte(blue) {
+        return Line::Is(Step::Colour {
+            entry: e,
+            red: r,
+            green: g,
+            blue: b,
+        });
+    }
+    Line::Other
+}
+
+// A line's words read as a step.
+pub fn step_of(w: Words) -> Line
+    ensures { λ r. ⌜ r ≡ stepOf w ⌝ }
+{
+    let a = w.at;
+    if (a[0] == 0x534554) & (a[3] == 0) {
+        return set_of(name_of(a[1]), a[2]);
+    }
+    if (a[0] == 0x4649454C44) & (a[4] == 0) {
+        return field_of(name_of(a[1]), a[2], a[3]);
+    }
+    if (a[0] == 0x434F4C4F5552) & (a[5] == 0) {
+        return colour_of(a[1], a[2], a[3], a[4]);
+    }
+    Line::Other
+}
+
+// What words say, if there are any.
+fn say(w: Words) -> Line
+    ensures { λ r. ⌜ r ≡ said w ⌝ }
+{
+    let a = w.at;
+    if a[0] == 0 {
+        return Line::Pass;
+    }
+    step_of(w)
+}
+
+// A line read.
+pub fn read_line(line: &[u8]) -> Line
+    ensures { λ r. ⌜ r ≡ lineOf (now (line .entry)) ⌝ }
+{
+    if byte_at(line, 0) == 0x23 {
+        return Line::Pass;
+    }
+    say(words_of(line))
+}
+
+// The first letter of an indexed group.
+fn letter_of(group: u8) -> u8
+    ensures { λ r. ⌜ r ≡ letter group ⌝ }
+{
+    match group {
+        0 => b'C',
+        1 => b'S',
+        2 => b'G',
+        3 => b'X',
+        4 => b'F',
+        5 => b'M',
+        8 => b'A',
+        _ => b'?',
+    }
+}
+
+// Bytes behind those that stand in an output that has room for them; where the next one goes.
+fn put(out: &mut [u8], at: usize, bytes: &[u8]) -> usize
+    requires { ⌜ at + length (now bytes) ≤ length (now out) ⌝ }
+    ensures { λ r. ⌜ Added (now (out .entry)) at (now (bytes .entry)) (now (out .exit)) r ⌝ }
+{
+    add(out, at, bytes)
+}
+
+// A register's name behind what stands in an output.
+fn put_name(out: &mut [u8], at: usize, group: u8, index: u8) -> usize
+    requires { ⌜ at + 7 ≤ length (now out) ⌝ }
+    ensures { λ r. ⌜ Added (now (out .entry)) at (nameText group index) (now (out .exit)) r ⌝ }
+{
+    if group == 6 {
+        return put(out, at, b"MSR");
+    }
+    if group == 7 {
+        return put(out, at, b"PALMASK");
+    }
+    let i = index as u16;
+    let text = [letter_of(group), b'R', digit(i / 16), digit(i)];
+    put(out, at, &text)
+}
+
+// A space and a byte.
+fn put_byte(out: &mut [u8], at: usize, value: u8) -> usize
+    requires { ⌜ at + 3 ≤ length (now out) ⌝ }
+    ensures { λ r. ⌜ Added (now (out .entry)) at (byteText value) (now (out .exit)) r ⌝ }
+{
+    let v = value as u16;
+    let text = [b' ', digit(v / 16), digit(v)];
+    put(out, at, &text)
+}
+
+// The text of a step.
+fn put_step(out: &mut [u8], at: usize, step: Step) -> usize
+    requires { ⌜ at + 20 ≤ length (now out) ⌝ }
+    ensures { λ r. ⌜ Added (now (out .entry)) at (stepText step) (now (out .exit)) r ⌝ }
+{
+    match step {
+        Step::Set {
+            group,
+            index,
+            value,
+        } => {
+            let name = put(out, at, b"SET ");
+            let byte = put_name(out, name, group, index);
+            put_byte(out, byte, value)
+        }
+        Step::Field {
+            group,
+            index,
+            value,
+            mask,
+        } => {
+            let name = put(out, at, b"FIELD ");
+            let bits = put_name(out, name, group, index);
+            let byte = put_byte(out, bits, mask);
+            put_byte(out, byte, value)
+        }
+        Step::Colour {
+            entry,
+            red,
+            green,
+            blue,
+        } => {
+            let e = put(out, at, b"COLOUR");
+            let r = put_byte(out, e, entry);
+            let g = put_byte(out, r, red);
+            let b = put_byte(out, g, green);
+            put_byte(out, b, blue)
+        }
+    }
+}
+
+// A step's line behind what stands in an output that has room for the longest line, 20 bytes; where the next line goes.
+pub fn add_step(out: &mut [u8], at: usize, step: Step) -> usize
+    ensures { λ r. ⌜ r ≡ behindIn 20 (now (out .entry)) at (stepLine step) ⌝ }
+    ensures { λ r. ⌜ now (out .exit) ≡ withAddedIn 20 (now (out .entry)) at (stepLine step) ⌝ }
+{
+    if out.len() < 20 {
+        return at;
+    }
+    if out.len() - 20 < at {
+        return at;
+    }
+    let end = put_step(out, at, step);
+    put(out, end, b"\n")
+}
+
+// A register's name behind what stands in an output that has room for the longest, 7 bytes; where the next byte goes.
+pub fn add_name(out: &mut [u8], at: usize, group: u8, index: u8) -> usize
+    ensures { λ r. ⌜ r ≡ behindIn 7 (now (out .entry)) at (nameText group index) ⌝ }
+    ensures { λ r. ⌜ now (out .exit) ≡ withAddedIn 7 (now (out .entry)) at (nameText group index) ⌝ }
+{
+    if out.len() < 7 {
+        return at;
+    }
+    if out.len() - 7 < at {
+        return at;
+    }
+    put_name(out, at, group, index)
+}

@@ -1,0 +1,60 @@
+-- By the kind of answer.
+use borrow.Author.Needs.{needs}
+use native.Mathlib.Omega.{arith}
+use mathlib.Core.List.{append-assoc}
+use Rattle.text.proofs.Adding.{added-none, added-append}
+use Rattle.workbench_replies.specs.Reply.{replyText}
+use Rattle.workbench_replies.proofs.add_reply.Statement.{statement}
+use Rattle.workbench_replies.proofs.add_reply.Tie as tie
+
+pub add-reply-spec : {M : Type 1} → statement M
+unfolding replyText
+add-reply-spec =
+    tie.close
+    (tie.spec
+    (λ c. search needs)
+    (λ c κs. search needs)
+    (λ c. search needs)
+    (λ c κs. omega (arith, c .before .before .before .before .add-number .ensures .1, c .before .before .before .before .before .before .before .before .before .before .pre))
+    (λ c. search needs)
+    (λ c κs. search needs)
+    (λ c. search needs)
+    (λ c κs. search needs)
+    (λ c κs. search needs)
+    (λ c. search needs)
+    (λ c κs. omega (arith, c .before .before .before .before .before .before .add-number2 .ensures .1, c .before .before .before .before .before .before .before .before .before .before .before .before .pre))
+    (λ c. search needs)
+    (λ c. search needs)
+    (λ c. search needs)
+    (λ c. search needs)
+    (λ c κs. search needs)
+    (λ c κs. search needs)
+    (λ c κs. search needs)
+    (λ c κs. search needs)
+    (λ c κs. search needs)
+    (λ c κs. search needs)
+    (λ c. search needs)
+    (λ c κs. search needs)
+    (λ c. search needs)
+    (λ c κs. search needs)
+    (λ c. search needs)
+    (λ c. search needs)
+    (λ c κs. search needs)
+    (λ c. search needs)
+    (λ c. search needs)
+    (λ c. search needs)
+    (λ c κs. search needs)
+    (λ c. search needs)
+    (λ c. rw (c .before .before .before .before .before .before .before .before .before .before .reply .given .1) (added-append (c .before .before .before .before .before .before .before .add-number .ensures .0) (c .before .before .add .ensures) (omega (arith, c .before .before .before .before .before .before .before .add-number .ensures .1, c .before .before .add .ensures .next, c .before .before .before .before .before .before .before .before .before .before .before .before .before .pre))))
+    (λ c. search needs)
+    (λ c. rw (c .before .before .before .before .before .before .before .before .before .before .before .before .reply2 .given .1, append-assoc)
+    (added-append (c .before .before .before .before .before .before .before .before .before .add-number2 .ensures .0) (rw (c .before .before .before .before .before .digit2 .ensures, c .before .before .before .before .before .before .digit .ensures) at (c .before .before .add2 .ensures)) (omega (arith, c .before .before .before .before .before .before .before .before .before .add-number2 .ensures .1, c .before .before .add2 .ensures .next, c .before .before .before .before .before .before .before .before .before .before .before .before .before .before .before .pre))))
+    (λ c. search needs)
+    (λ c. rw (c .before .before .before .before .before .before .before .before .before .before .before .before .reply3 .given .1) (rw (c .before .before .before .before .before .digit8 .ensures, c .before .before .before .before .before .before .digit7 .ensures, c .before .before .before .before .before .before .before .digit6 .ensures, c .before .before .before .before .before .before .before .before .digit5 .ensures, c .before .before .before .before .before .before .before .before .before .digit4 .ensures, c .before .before .before .before .before .before .before .before .before .before .digit3 .ensures) at (c .before .before .add3 .ensures)))
+    (λ c. search needs)
+    (λ c. rw (c .before .before .before .before .enum-told .given .1) (c .before .before .add-registers .ensures))
+    (λ c. search needs)
+    (λ c. rw (c .before .before .before .before .before .enum-told2 .given .1) (c .before .before .add4 .ensures))
+    (λ c. rw (c .enum-told3 .given .1) (added-none _ _))
+    (λ c. search needs)
+    (λ c. rw (c .before .before .before .before .before .enum-told4 .given .1) (c .before .before .add5 .ensures)))

@@ -1,0 +1,117 @@
+// The text of an answer of the workbench, put into a lent output: a number, a byte, a colour, all registers, or that the
+// line was not known. The definition is specs/Reply; all registers are the crate text_registers's, and digits the crate text's.
+ghost use mathlib.Core.Path.{_≡_};
+ghost use Prim.Native.Nat.{_+_, _≤_};
+ghost use lib.ListN.{length};
+ghost use Rattle.chip.specs.State.{named};
+ghost use Rattle.text.specs.Digits.{decimal};
+ghost use Rattle.text.specs.Adding.{Added, withAddedIn, behindIn};
+ghost use Rattle.text_registers.specs.Text.{dumped};
+ghost use Rattle.workbench_replies.specs.Reply.{replyText};
+use chip::Chip;
+use text::digit;
+use text_registers::dump;
+
+// An answer.
+pub enum Reply {
+    // A number: 0 where it was done, else why not.
+    Number(u8),
+    // A number and a byte.
+    Byte(u8, u8),
+    // Red, green and blue.
+    Colour(u8, u8, u8),
+    // All registers.
+    Registers,
+    // The requests, with a form each.
+    Requests,
+    // Nothing is said.
+    Nothing,
+    // The line was not known.
+    Unknown,
+}
+
+// Bytes behind those that stand in an output that has room for them; where the next one goes.
+fn add(out: &mut [u8], at: usize, bytes: &[u8]) -> usize
+    requires { ⌜ at + length (now bytes) ≤ length (now out) ⌝ }
+    ensures { λ r. ⌜ Added (now (out .entry)) at (now (bytes .entry)) (now (out .exit)) r ⌝ }
+{
+    text::add(out, at, bytes)
+}
+
+// A number in decimal.
+fn add_number(out: &mut [u8], at: usize, n: u8) -> usize
+    requires { ⌜ at + 20 ≤ length (now out) ⌝ }
+    ensures { λ r. ⌜ Added (now (out .entry)) at (decimal n) (now (out .exit)) r ⌝ }
+    ensures { λ r. ⌜ r ≤ at + 20 ⌝ }
+{
+    text::add_decimal(out, at, n as usize)
+}
+
+// All registers.
+fn add_registers(chip: Chip, out: &mut [u8], at: usize) -> usize
+    requires { ⌜ at + 8192 ≤ length (now out) ⌝ }
+    ensures { λ r. ⌜ Added (now (out .entry)) at (dumped (named chip)) (now (out .exit)) r ⌝ }
+{
+    dump(chip, out, at)
+}
+
+// The text of an answer.
+fn add_reply(chip: Chip, reply: Reply, out: &mut [u8], at: usize) -> usize
+    requires { ⌜ at + 8192 ≤ length (now out) ⌝ }
+    ensures { λ r. ⌜ Added (now (out .entry)) at (replyText (named chip) reply) (now (out .exit)) r ⌝ }
+{
+    match reply {
+        Reply::Number(k) => {
+            let end = add_number(out, at, k);
+            add(out, end, b"\n")
+        }
+        Reply::Byte(k, value) => {
+            let end = add_number(out, at, k);
+            let v = value as u16;
+            let text = [b' ', digit(v / 16), digit(v), b'\n'];
+            add(out, end, &text)
+        }
+        Reply::Colour(red, green, blue) => {
+            let r = red as u16;
+            let g = green as u16;
+            let b = blue as u16;
+            let text = [
+                b'0',
+                b' ',
+                digit(r / 16),
+                digit(r),
+                b' ',
+                digit(g / 16),
+                digit(g),
+                b' ',
+                digit(b / 16),
+                digit(b),
+                b'\n',
+            ];
+            add(out, at, &text)
+        }
+        Reply::Registers => add_registers(chip, out, at),
+        Reply::Requests => add(
+            out,
+            at,
+            b"reset FF FF    a reset with the two pin bytes\no 3D6 60       a byte to a port\ni 3D7          a byte from a port\np 07           the colour that a pixel with this byte shows\nm 200000       so many bytes of memory, all 0\nr 1FFF         a byte of memory\nw 1FFF 5A      a byte into memory\nt 1F 10 0 10 4 2 CC 0 0 40 7\n               a block transfer: destination, span, source, span, width, height, raster code,\n               right to left, bottom to top, pattern, row\nd              all registers by name\n? or help      this list\nq              the end\n",
+        ),
+        Reply::Nothing => at,
+        Reply::Unknown => add(out, at, b"?\n"),
+    }
+}
+
+// The text of an answer, at a place of an output that has 8,192 bytes from there on; where the next byte goes. With less
+// room nothing changes.
+pub fn print(chip: Chip, reply: Reply, out: &mut [u8], at: usize) -> usize
+    ensures { λ r. ⌜ r ≡ behindIn 8192 (now (out .entry)) at (replyText (named chip) reply) ⌝ }
+    ensures { λ r. ⌜ now (out .exit) ≡ withAddedIn 8192 (now (out .entry)) at (replyText (named chip) reply) ⌝ }
+{
+    if out.len() < at {
+        return at;
+    }
+    if out.len() - at < 8192 {
+        return at;
+    }
+    add_reply(chip, reply, out, at)
+}
