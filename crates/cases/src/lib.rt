@@ -1,6 +1,6 @@
 // Set-ups to try: what a case of a table can say (specs/Cases), document 01's starred ones (specs/Starred), the
 // witnesses of must-fail edits (specs/Witnesses), and in code what the program
-// `setups` asks of a chip. The cases of document 02's requests are crate `request_cases`.
+// `setups` asks of a chip. The cases of document 02's requests are crate `cases_requests`.
 ghost use mathlib.Core.Path.{_≡_};
 ghost use Rattle.chip.specs.Access.{numberOf, portWritten, portRead};
 use chip::Chip;

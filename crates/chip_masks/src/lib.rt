@@ -1,4 +1,4 @@
-// The writable bits of every register as one table: the masks of crate `registers`, whose matches on ranges of
+// The writable bits of every register as one table: the masks of crate `chip_registers`, whose matches on ranges of
 // indexes are what document 01 asks for and what a reader looks up, once more, for speed. A port write of the
 // library takes its mask from here, by one load where the ranges take several jumps. The two are proved equal at
 // every index of every group, so what has to be believed stays in one place.

@@ -1,5 +1,5 @@
 -- The numbers that cross the boundary: document 01's ("Numbers returned"), and `noState` for bytes that are no state. Those of a
--- port access are crate `state`'s, those of registers and colours by name crate `lent_names`'s. What has a longer value writes it to
+-- port access are crate `lent_chip`'s, those of registers and colours by name crate `lent_names`'s. What has a longer value writes it to
 -- a place that the caller lends.
 use Prim.Native.Nat.{ℕ}
 use Rattle.chip_run.specs.Run.{ofEnding}

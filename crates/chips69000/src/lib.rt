@@ -1,5 +1,5 @@
 // The controller as a C program links it: include/chips69000.h declares these functions. The state is bytes
-// that the program lends (crate `state`), memory, files and command bytes likewise, and each function returns
+// that the program lends (crate `lent_chip`), memory, files and command bytes likewise, and each function returns
 // document 01's number, or 255 for bytes that are no state (specs/Numbers). Nothing is worked out here: every
 // function calls a proved one and says its answer in numbers. Here are the reset and the port accesses; then
 // registers and colours by name, video memory, scripts and the run.

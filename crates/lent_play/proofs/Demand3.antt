@@ -1,4 +1,4 @@
--- Demand 3 on lent bytes: what the run answers and leaves is that of the run on the chip that they hold, of which crate `play`
+-- Demand 3 on lent bytes: what the run answers and leaves is that of the run on the chip that they hold, of which crate `chip_play`
 -- says it.
 use Prim.Native.Nat.{ℕ, _≤_}
 use mathlib.Core.Path.{_≡_, ap, _∙_}

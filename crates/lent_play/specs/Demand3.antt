@@ -1,8 +1,8 @@
 -- Demand 3 on lent bytes, to read: after the commands of each step the chip that the bytes hold is by name what the steps say.
--- The run is that of crate `drive`, whose contract has the two premises on its answer and on the bytes that it leaves; `begins`
--- is what `step_commands` of crate `commands` answers. The bytes may hold any state whose ports are open, reached by accesses
+-- The run is that of crate `lent_run`, whose contract has the two premises on its answer and on the bytes that it leaves; `begins`
+-- is what `step_commands` of crate `script_commands` answers. The bytes may hold any state whose ports are open, reached by accesses
 -- or not. The theorem is `demand-3-in`, in proofs/Demand3; the definitions under it and the laws beside it are those of
--- specs/Demand3 of crate `play`.
+-- specs/Demand3 of crate `chip_play`.
 use Prim.Native.Nat.{ℕ, _≤_}
 use mathlib.Core.Path.{_≡_}
 use mathlib.Core.Bool.{true}

@@ -1,5 +1,5 @@
 -- A script file played on lent bytes: what is answered, what is left of the buffer, and what it means by name. What is left of the
--- state is said by `Left` (crate `state`) of the chip that crate `play`'s definition gives. Document 01, "Scripts". Demand 3
+-- state is said by `Left` (crate `lent_chip`) of the chip that crate `chip_play`'s definition gives. Document 01, "Scripts". Demand 3
 -- after each step is specs/Demand3.
 use Prim.Native.Nat.{ℕ}
 use mathlib.Core.Path.{_≡_}
@@ -33,6 +33,6 @@ performTable l file room = cond (isState l) (playTable (view l) file room) (retu
 abbrev pub bufferLeft : List ℕ → List ℕ → List ℕ → List ℕ
 bufferLeft l file buffer = cond (isState l) (leftBy (translated file (length buffer)) file buffer) buffer
 
--- by name: what became of the script, and the chip that the bytes hold now, are what crate `play` promises of the chip that they held
+-- by name: what became of the script, and the chip that the bytes hold now, are what crate `chip_play` promises of the chip that they held
 pub record ByNameIn (l file : List ℕ) (room : ℕ) (m : List ℕ) (r : Performed) : Type 0 where
   pub byName : length l ≡ whole → (o : Outcome) → r ≡ Met o → ByName (view l) file room (record { chip = view m; outcome = o })

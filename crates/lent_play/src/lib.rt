@@ -1,5 +1,5 @@
 // A script file played on lent bytes: translated into a lent buffer, and its commands run in place. The text is
-// that of crate `play`, whose definition it meets on the chip that the bytes hold. Demand 3 is said of the whole script by the
+// that of crate `chip_play`, whose definition it meets on the chip that the bytes hold. Demand 3 is said of the whole script by the
 // contract, and after each step in specs/Demand3.
 ghost use mathlib.Core.Path.{_≡_};
 ghost use lib.ListN.{length};

@@ -1,7 +1,7 @@
 // A reset on lent bytes. Document 01, "Registers" and "Palette", and document 02, P1: what a reset leaves, by its
 // two pin bytes.
 // Whatever the bytes held, they hold afterwards the chip that crate `chip`'s reset gives, and their spare bits
-// (crate `state`, specs/Layout) are 0: a host need not clear the bytes before the first reset.
+// (crate `lent_chip`, specs/Layout) are 0: a host need not clear the bytes before the first reset.
 ghost use mathlib.Core.Path.{_≡_};
 ghost use Prim.Native.Nat.{_<_};
 ghost use lib.ListN.{length};

@@ -1,5 +1,5 @@
 -- One turn of the run's loop on lent bytes. A refused command leaves the chip as it was, so bytes that a stopped run leaves hold
--- the chip before that command; everything else is crate `run`'s law of the same turn.
+-- the chip before that command; everything else is crate `chip_run`'s law of the same turn.
 use Prim.Native.Nat.{ℕ, _+_, _-_, _%_, _<_, _≤_}
 use native.Mathlib.Omega.{arith}
 use mathlib.Core.Path.{_≡_, refl, ap, sym, _∙_}

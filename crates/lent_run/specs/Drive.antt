@@ -1,4 +1,4 @@
--- The run of commands on lent bytes: what it answers, and what it leaves, by crate `run`'s definition of the run on a chip.
+-- The run of commands on lent bytes: what it answers, and what it leaves, by crate `chip_run`'s definition of the run on a chip.
 -- Document 01, "Commands".
 use Prim.Native.Nat.{ℕ}
 use mathlib.Core.Path.{_≡_}

@@ -1,5 +1,5 @@
 // The run of a list of commands on lent bytes, up to a limit, in place. Document 01, "Commands". The text is
-// that of crate `run`, whose definition it meets on the chip that the bytes hold: no state is copied.
+// that of crate `chip_run`, whose definition it meets on the chip that the bytes hold: no state is copied.
 ghost use mathlib.Core.Path.{_≡_};
 ghost use lib.ListN.{length};
 ghost use Rattle.chip.specs.Access.{portWritten, portRead};

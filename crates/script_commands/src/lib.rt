@@ -1,5 +1,5 @@
 // Commands: four bytes each, and the commands that a script's steps stand for. Document 01, "Commands", and
-// number 9 for commands; document 02, P1, for group 8. Running them is crate `run`'s.
+// number 9 for commands; document 02, P1, for group 8. Running them is crate `chip_run`'s.
 ghost use mathlib.Core.Path.{_≡_};
 ghost use mathlib.Core.List.{[], _∷_};
 ghost use Prim.Native.Nat.{ℕ, _+_, _*_, _≤_, _%_, _/_};

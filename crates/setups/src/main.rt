@@ -1,6 +1,6 @@
 // Document 01's set-ups on the compiled code, and cases of document 02's requests: a line a case, `3 ok` or
 // `P1.2 ok`, or the bytes that came out instead. The cases marked *, and those of requests, are also rows of the
-// tables of crates `cases` and `request_cases`, which are proved. A case is sixteen bytes:
+// tables of crates `cases` and `cases_requests`, which are proved. A case is sixteen bytes:
 // what came out, and zeros after it.
 use blit::block_transfer;
 use blit_frame::Area;
