@@ -21,6 +21,6 @@ pub fn block_transfer(mem: &mut [u8], t: Transfer) -> Answer
     if let Answer::Refused(why) = blit_frame::judge(mem.len(), t) {
         return Answer::Refused(why);
     }
-    text_listing::run(mem, t);
+    lines::run(mem, t);
     Answer::Done
 }
