@@ -165,5 +165,5 @@ nth-spec 𝓤 H 𝓜 𝓖 𝓡 =
     entered 𝓤 H (tripleOf 𝓤 H (𝓖 .A) nth.signature (nth.spec 𝓤 H (𝓖 .A) (𝓜 .mem) (𝓡 .run)))
     (tables 𝓤 H 𝓜 𝓡 code.env .C) (tables 𝓤 H 𝓜 𝓡 code.env .Λ) #reader·nth code.function (code.unfolded 𝓤 H 𝓜 𝓡)
     (nth-meets 𝓤 H (𝓖 .A) (givenOf 𝓤 H 𝓜 𝓖) (𝓜 .mem) (𝓡 .run) (tablesOf 𝓤 H 𝓜 (tables 𝓤 H 𝓜 𝓡 code.env))
-    (cited 𝓤 H (Over 𝓤 H (𝓖 .A) (𝓜 .mem) (𝓡 .run)) 𝓜 𝓡 code.env #reader·over over-def.routine code.calls-reader·over (over-thm.met 𝓤 H 𝓜 𝓖 𝓡))
-    (cited 𝓤 H (Ask 𝓤 H (𝓖 .A) (𝓜 .mem) (𝓡 .run)) 𝓜 𝓡 code.env #reader·ask ask-def.routine code.calls-reader·ask (ask-thm.met 𝓤 H 𝓜 𝓖 𝓡)))
+    (cited 𝓤 H (Over 𝓤 H (𝓖 .A) (𝓜 .mem) (𝓡 .run)) 𝓜 𝓡 code.env #reader·over over-def.routine code.calls-script-reader·over (over-thm.met 𝓤 H 𝓜 𝓖 𝓡))
+    (cited 𝓤 H (Ask 𝓤 H (𝓖 .A) (𝓜 .mem) (𝓡 .run)) 𝓜 𝓡 code.env #reader·ask ask-def.routine code.calls-script-reader·ask (ask-thm.met 𝓤 H 𝓜 𝓖 𝓡)))
