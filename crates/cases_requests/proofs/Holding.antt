@@ -14,7 +14,7 @@ use Rattle.chip_ports.specs.Ports.{ports, target}
 use Rattle.chip.specs.Names.{locked, received, portsOpen, colour, eightBit}
 use Rattle.chip.specs.Palette.{coloured, loaded, shown}
 use Rattle.chip.specs.Access.{portWritten, portRead}
-use Rattle.chip.specs.Reset.{resetByte, filled, reset}
+use Rattle.chip.specs.Reset.{resetByte, reset}
 use Rattle.blit_raster.specs.Raster.{number, raster, usesSource, usesPattern}
 use Rattle.blit_frame.specs.Frame.{inRange, inMemory}
 use Rattle.blit.specs.Transfer.{byteDone, inTurn, lineDone, linesDone, transferred}
@@ -30,5 +30,5 @@ use Rattle.cases.specs.Cases.{allHold}
 use Rattle.cases_requests.specs.Asked.{asked}
 
 pub requests-hold : allHold asked ≡ true
-unfolding asked CR SR GR XR MR AR indexKept groupAt rowOf lockedBy leftOpen writableNow written ports target locked received portsOpen colour eightBit coloured loaded shown portWritten portRead resetByte filled reset number raster usesSource usesPattern byteDone inTurn lineDone linesDone inRange inMemory transferred firstNot every tab names legal fits idle judged shaped stepOf bytesOf wordSum stepsChecked front blocksTo fileWritten bytesOfAll ways expanded
+unfolding asked CR SR GR XR MR AR indexKept groupAt rowOf lockedBy leftOpen writableNow written ports target locked received portsOpen colour eightBit coloured loaded shown portWritten portRead resetByte reset number raster usesSource usesPattern byteDone inTurn lineDone linesDone inRange inMemory transferred firstNot every tab names legal fits idle judged shaped stepOf bytesOf wordSum stepsChecked front blocksTo fileWritten bytesOfAll ways expanded
 requests-hold = refl

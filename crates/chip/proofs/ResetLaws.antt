@@ -1,16 +1,17 @@
 -- What a reset leaves: each register its reset byte, at all 256 indexes; the pins in XR08, XR70 and XR71; 00h at an unlisted
--- index; and a byte in each. A group's bank is one list filled from its reset bytes, and the rest follows from that. Of the
+-- index; and a byte in each. A group's bank is one list of its reset bytes, and the rest follows from that. Of the
 -- palette nothing survives: every entry is 0, and so are its index and the held bytes.
-use Prim.Native.Nat.{ℕ, zero, suc, _<_, _≤_}
+use Prim.Native.Nat.{ℕ, _<_, _≤_}
 use native.Mathlib.Omega.{arith}
 use mathlib.Core.Bool.{Bool, true, false, cond}
 use mathlib.Core.Path.{_≡_, refl, sym, ap, _∙_}
-use mathlib.Core.List.{List, [], _∷_, _++_}
-use lib.Dec.{eqb, ltb}
-use lib.ListN.{getD, length, length-append, getD-replicate, List·getD-append, List·getD-eq-default}
-use lib.Seq.{getD-at}
+use mathlib.Core.List.{List, [], _∷_}
+use lib.Dec.{eqb}
+use lib.ListN.{getD, getD-replicate}
 use lib.Bits.{bitAnd, bitOr, and-le-l, or-lt}
-use borrow.Author.Tests.{eqb-true, eqb-false, ltb-true, ltb-false}
+use borrow.Author.Tests.{eqb-true}
+use Rattle.lists.specs.Tab.{tab}
+use Rattle.lists.proofs.Tab.{tab-at, tab-bytes}
 use Rattle.chip_registers.specs.Extension.{XR}
 use Rattle.chip_registers.specs.Groups.{is, rowOf, resetOf}
 use Rattle.chip_registers.proofs.TableLaws.{byte-rows}
@@ -21,33 +22,16 @@ use Rattle.chip_registers.specs.declared.Group.the-variants.{Cr, Sr, Gr, Xr, Fr
 use Rattle.chip.specs.State.{named, indexByte}
 use Rattle.chip.specs.Names.{register}
 use Rattle.chip.specs.Palette.{rgb, entry}
-use Rattle.chip.specs.Reset.{resetByte, filled, reset}
+use Rattle.chip.specs.Reset.{resetByte, reset}
 use Rattle.chip.proofs.Banks.{bank, place, room, place-room, register-bank, is-same}
 use Rattle.chip.proofs.NameLaws.{Bytes}
 
-pub length-filled : (f : ℕ → ℕ) (n : ℕ) → length (filled f n) ≡ n
-unfolding filled
-length-filled f zero = refl
-length-filled f (suc n) = let h = length-filled f n in simp length-append (omega arith)
-
-filled-at : (f : ℕ → ℕ) (n i : ℕ) → i < n → getD (filled f n) i 0 ≡ f i
-unfolding filled
-filled-at f zero i h = absurd (omega arith)
-filled-at f (suc n) i h = go (eqb i n) refl (filled-at f n i)
-  where
-    go : (z : Bool) → eqb i n ≡ z → (i < n → getD (filled f n) i 0 ≡ f i) → getD (filled f n ++ (f n ∷ [])) i 0 ≡ f i
-    go true e below = rw (eqb-true i n e) (getD-at (filled f n) (f n) [] 0 n (length-filled f n))
-    go false e below =
-        let ne : i ≡ n → ⊥ = eqb-false i n e in
-        let room : i < length (filled f n) = rw (length-filled f n) (omega arith) in
-        List·getD-append (filled f n) (f n ∷ []) 0 i room ∙ below (omega arith)
-
 -- a group's bank after a reset
-filled-one : (f : ℕ → ℕ) → _≡_ {A = List ℕ} (f 0 ∷ []) (filled f 1)
-unfolding filled
-filled-one f = refl
+tab-one : (f : ℕ → ℕ) → _≡_ {A = List ℕ} (f 0 ∷ []) (tab f 1)
+unfolding tab
+tab-one f = refl
 
-pub bank-reset : (first second : ℕ) (g : Group) → bank g (named (reset first second)) ≡ filled (resetByte first second g) (room g)
+pub bank-reset : (first second : ℕ) (g : Group) → bank g (named (reset first second)) ≡ tab (resetByte first second g) (room g)
 unfolding reset
 bank-reset p q Cr = refl
 bank-reset p q Sr = refl
@@ -55,8 +39,8 @@ bank-reset p q Gr = refl
 bank-reset p q Xr = refl
 bank-reset p q Fr = refl
 bank-reset p q Mr = refl
-bank-reset p q Msr = filled-one (resetByte p q Msr)
-bank-reset p q Palmask = filled-one (resetByte p q Palmask)
+bank-reset p q Msr = tab-one (resetByte p q Msr)
+bank-reset p q Palmask = tab-one (resetByte p q Palmask)
 bank-reset p q Ar = refl
 
 -- MSR and PALMASK have one row, whatever the index
@@ -73,12 +57,12 @@ reset-place p q Palmask i = refl
 reset-place p q Ar i = refl
 
 -- a register after a reset
-register-filled : (p q : ℕ) (g : Group) (i : ℕ) → register g (named (reset p q)) i ≡ getD (filled (resetByte p q g) (room g)) (place g i) 0
-register-filled p q g i = register-bank g (named (reset p q)) i ∙ ap (λ (l : List ℕ). getD l (place g i) 0) (bank-reset p q g)
+register-tab : (p q : ℕ) (g : Group) (i : ℕ) → register g (named (reset p q)) i ≡ getD (tab (resetByte p q g) (room g)) (place g i) 0
+register-tab p q g i = register-bank g (named (reset p q)) i ∙ ap (λ (l : List ℕ). getD l (place g i) 0) (bank-reset p q g)
 
 pub register-reset : (first second : ℕ) (g : Group) (i : ℕ) → i < 0x100 → register g (named (reset first second)) i ≡ resetByte first second g i
 register-reset p q g i h =
-    register-filled p q g i ∙ filled-at (resetByte p q g) (room g) (place g i) (place-room g i h) ∙ reset-place p q g i
+    register-tab p q g i ∙ tab-at (resetByte p q g) (room g) (place g i) 0 (place-room g i h) ∙ reset-place p q g i
 
 -- the registers that show the pins
 pub XR-pins-reset : (first second : ℕ)
@@ -121,17 +105,8 @@ resetByte-byte first second hp hq g i = go (is g Xr) (eqb i 0x08) (eqb i 0x70) (
     go true false false false = byte-rows g i .1
     go false a b d = byte-rows g i .1
 
-filled-bytes : (f : ℕ → ℕ) (n i : ℕ) → ((k : ℕ) → f k < 0x100) → getD (filled f n) i 0 < 0x100
-filled-bytes f n i bytes = go (ltb i n) refl
-  where
-    go : (z : Bool) → ltb i n ≡ z → getD (filled f n) i 0 < 0x100
-    go true e = rw (filled-at f n i (ltb-true i n e)) (bytes i)
-    go false e =
-        let past : length (filled f n) ≤ i = rw (length-filled f n) (ltb-false i n e) in
-        rw (List·getD-eq-default (filled f n) 0 past) (omega arith)
-
 pub reset-bytes : (first second : ℕ) → first < 0x100 → second < 0x100 → Bytes (named (reset first second))
-reset-bytes p q hp hq g i = rw (register-filled p q g i) (filled-bytes (resetByte p q g) (room g) (place g i) (resetByte-byte p q hp hq g))
+reset-bytes p q hp hq g i = rw (register-tab p q g i) (tab-bytes (resetByte p q g) (resetByte-byte p q hp hq g) (room g) (place g i))
 
 -- the palette: no entry survives, and nothing of a colour half loaded
 pub entries-reset : (first second e : ℕ) → e < 0x100 → entry (named (reset first second)) e ≡ rgb 0 0 0

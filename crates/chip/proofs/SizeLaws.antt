@@ -11,6 +11,7 @@ use lib.Dec.{eqb}
 use borrow.Author.Tests.{eqb-true}
 use lib.ListN.{length, set, length-set, length-replicate}
 use Rattle.lists.specs.Bits.{bit, isSet}
+use Rattle.lists.proofs.Tab.{tab-length}
 use Rattle.chip_registers.specs.CrtController.{CR}
 use Rattle.chip_registers.specs.Groups.{groupAt, is, rowOf}
 use Rattle.chip_registers.specs.Indexes.{fits}
@@ -39,7 +40,7 @@ use Rattle.chip.proofs.NameLaws.{Has, received-same, received-bit, colo
 use Rattle.chip.proofs.AccessLaws.{write-cases, state-read, write-data, named-written, read-keeps-all}
 use Rattle.chip.proofs.IndexLaws.{byte-written, byte-other, index-turn}
 use Rattle.chip.proofs.PaletteLaws.{coloured-same, after, read, colour-by-ports, colour-read-by-ports}
-use Rattle.chip.proofs.ResetLaws.{length-filled, bank-reset}
+use Rattle.chip.proofs.ResetLaws.{bank-reset}
 
 -- a register that receives a byte, and a colour that is stored, leave every table and the palette as long as it was
 set-if : (z : Bool) (l : List ℕ) (i b : ℕ) → length (cond z (set l i b) l) ≡ length l
@@ -68,7 +69,7 @@ length-palette-written c p v =
 
 -- the sizes of a reached state
 reach-room : {first second : ℕ} {c : Chip} → Reach first second c → (g : Group) → length (bank g (named c)) ≡ room g
-reach-room {first} {second} fresh g = ap length (bank-reset first second g) ∙ length-filled (resetByte first second g) (room g)
+reach-room {first} {second} fresh g = ap length (bank-reset first second g) ∙ tab-length (resetByte first second g) (room g)
 reach-room (wrote {c} p v hv r) g = length-written g c p v ∙ reach-room r g
 reach-room (saw {c} p r) g = ap (λ (n : Named). length (bank g n)) (read-keeps-all c p .0) ∙ reach-room r g
 

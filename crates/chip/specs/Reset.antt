@@ -4,12 +4,12 @@
 -- databook says so where it has their index registers (chapters 9, 10, 11 and 14), and for FR and MR, whose index registers have
 -- no page, it is document 01's rule that a reset bit that is not given is 0. Document 02, P1: the turn of 3C0h is the index's; chapter 12
 -- gives the attribute index no reset, so all of it is 0, and there is no picture.
-use Prim.Native.Nat.{ℕ, zero, suc}
+use Prim.Native.Nat.{ℕ}
 use mathlib.Core.Bool.{false, cond}
-use mathlib.Core.List.{List, [], _∷_, _++_}
 use lib.Dec.{eqb}
 use lib.ListN.{replicate}
 use lib.Bits.{bitAnd, bitOr}
+use Rattle.lists.specs.Tab.{tab}
 use Rattle.chip_registers.specs.Groups.{is, resetOf}
 use Rattle.chip_registers.specs.declared.Group.{Group}
 use Rattle.chip_registers.specs.declared.Group.the-variants.{Cr, Sr, Gr, Xr, Fr, Mr, Msr, Palmask, Ar}
@@ -26,20 +26,15 @@ resetByte first second g i =
     (resetOf g i))))
     (resetOf g i)
 
--- the list of f at 0, 1, .. below n
-unfoldable pub filled : (ℕ → ℕ) → ℕ → List ℕ
-filled f zero = []
-filled f (suc n) = filled f n ++ (f n ∷ [])
-
 unfoldable pub reset : ℕ → ℕ → Chip
 reset first second = record {
-  cr = filled (resetByte first second Cr) 256;
-  sr = filled (resetByte first second Sr) 256;
-  gr = filled (resetByte first second Gr) 256;
-  xr = filled (resetByte first second Xr) 256;
-  fr = filled (resetByte first second Fr) 256;
-  mr = filled (resetByte first second Mr) 256;
-  ar = filled (resetByte first second Ar) 256;
+  cr = tab (resetByte first second Cr) 256;
+  sr = tab (resetByte first second Sr) 256;
+  gr = tab (resetByte first second Gr) 256;
+  xr = tab (resetByte first second Xr) 256;
+  fr = tab (resetByte first second Fr) 256;
+  mr = tab (resetByte first second Mr) 256;
+  ar = tab (resetByte first second Ar) 256;
   msr = resetByte first second Msr 0x00;
   palmask = resetByte first second Palmask 0x00;
   picture = false;

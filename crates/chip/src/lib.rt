@@ -3,9 +3,10 @@
 // attribute.rt, the port accesses in access.rt. Only `fill` with `new`, `get`,
 // `replace`, `entry` and `put_colour` touch the tables; everything else asks for a register or a colour.
 ghost use mathlib.Core.Path.{_≡_};
+ghost use Rattle.lists.specs.Tab.{tab};
 ghost use Rattle.chip.specs.State.{named, withNamed};
 ghost use Rattle.chip.specs.Names.{register, replaced, locked as lockedOf, received, portsOpen, colour as colourOf, eightBit};
-ghost use Rattle.chip.specs.Reset.{resetByte, filled, reset as resetOf};
+ghost use Rattle.chip.specs.Reset.{resetByte, reset as resetOf};
 use chip_registers::Group;
 use chip_registers::locked_by;
 use chip_registers::reset_byte;
@@ -95,7 +96,7 @@ pub fn after_reset(g: Group, i: u8, first: u8, second: u8) -> u8
 
 // A group's table after a reset.
 fn fill(g: Group, first: u8, second: u8) -> [u8; 256]
-    ensures { λ r. ⌜ r ≡ filled (resetByte first second g) 256 ⌝ }
+    ensures { λ r. ⌜ r ≡ tab (resetByte first second g) 256 ⌝ }
 {
     let mut table = [0u8; 256];
     let mut i: usize = 0;

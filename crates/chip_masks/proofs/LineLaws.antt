@@ -1,12 +1,16 @@
 -- A register's writable bits are the byte of its line that its index names: one argument for every group.
 use Prim.Native.Nat.{ℕ, zero, suc, _+_, _*_, _-_, _/_, _%_, _^_, _<_, _≤_}
 use native.Mathlib.Omega.{arith}
+use mathlib.Core.Bool.{true, not, _||_}
 use mathlib.Core.Path.{_≡_, refl, ap, sym, _∙_}
+use lib.Dec.{eqb, ltb}
 use lib.Pow.{shr-shr}
-use Rattle.chip_registers.specs.Groups.{tableAt, rowOf, writableOf}
+use borrow.Author.Tests.{eq-eqb, lt-ltb}
+use Rattle.lists.specs.Scan.{every}
+use Rattle.chip_registers.specs.Groups.{groupAt, tableAt, is, rowOf, writableOf}
 use Rattle.chip_registers.specs.declared.Group.{Group}
-use Rattle.chip_registers.specs.declared.Group.the-variants.{Cr, Sr, Gr, Xr, Fr, Mr, Msr, Palmask, Ar}
-use Rattle.chip_registers.proofs.TableLaws.{byte-rows}
+use Rattle.chip_registers.specs.declared.Group.the-variants.{Msr}
+use Rattle.chip_registers.proofs.TableLaws.{byte-rows, every-group, is-same}
 use Rattle.chip_masks.specs.Table.{packed, lineOf, tableOf}
 
 -- byte j of those that are packed, d before the last
@@ -24,29 +28,18 @@ packed-at f h (suc d) j (suc n) e =
 
 -- the group of a group's table is the group, where it has one
 pub table-numbered : (g : Group) → tableOf g < 8 → tableAt (tableOf g) ≡ g
-unfolding tableAt
-table-numbered Cr h = refl
-table-numbered Sr h = refl
-table-numbered Gr h = refl
-table-numbered Xr h = refl
-table-numbered Fr h = refl
-table-numbered Mr h = refl
-table-numbered Msr h = absurd (omega arith)
-table-numbered Palmask h = refl
-table-numbered Ar h = refl
+unfolding tableAt groupAt every
+table-numbered g h =
+    let t : (not (ltb (tableOf g) 8) || is (tableAt (tableOf g)) g) ≡ true =
+    every-group (λ h. not (ltb (tableOf h) 8) || is (tableAt (tableOf h)) h) refl g in
+    is-same (tableAt (tableOf g)) g (rw (lt-ltb (tableOf g) 8 h) at t)
 
 -- the group without lines is MSR
 pub without-lines : (g : Group) (i : ℕ) → tableOf g ≡ 8 → writableOf g i ≡ 0xEF
-unfolding rowOf
-without-lines Cr i e = absurd (omega arith)
-without-lines Sr i e = absurd (omega arith)
-without-lines Gr i e = absurd (omega arith)
-without-lines Xr i e = absurd (omega arith)
-without-lines Fr i e = absurd (omega arith)
-without-lines Mr i e = absurd (omega arith)
-without-lines Msr i e = refl
-without-lines Palmask i e = absurd (omega arith)
-without-lines Ar i e = absurd (omega arith)
+unfolding rowOf groupAt every
+without-lines g i e =
+    let t : (not (eqb (tableOf g) 8) || is g Msr) ≡ true = every-group (λ h. not (eqb (tableOf h) 8) || is h Msr) refl g in
+    ap (λ (h : Group). writableOf h i) (is-same g Msr (rw (eq-eqb (tableOf g) 8 e) at t))
 
 pub in-line : (g : Group) (i : ℕ) → tableOf g < 8 → i < 256 → lineOf (32 * tableOf g + i / 8) / 2 ^ (8 * (7 - i % 8)) % 256 ≡ writableOf g i
 unfolding lineOf

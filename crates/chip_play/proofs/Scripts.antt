@@ -9,7 +9,8 @@ use mathlib.Core.List.{List, [], _∷_, _++_, append-assoc, append-nil}
 use lib.ListN.{length, take, drop, getD, length-append}
 use lib.Seq.{take-at, drop-at}
 use lib.Dec.{eqb}
-use Rattle.lists.specs.Tab.{tab, Bytes}
+use Rattle.lists.specs.Tab.{Bytes}
+use Rattle.lists.proofs.Tab.{tab-bytes}
 use Rattle.lists.proofs.Scan.{first-end}
 use Rattle.lists.proofs.Tests.{units-test}
 use Rattle.script_steps.specs.Step.{bytesOf, stepOf, isGood}
@@ -142,12 +143,6 @@ bytes-append [] y a b i = b i
 bytes-append (v ∷ x) y a b zero = a 0
 bytes-append (v ∷ x) y a b (suc i) = bytes-append x y (λ j. a (suc j)) b i
 
-bytes-tab : (g : ℕ → ℕ) → ((p : ℕ) → g p < 256) → (i n p : ℕ) → getD (tab g i n) p 0 < 256
-unfolding tab
-bytes-tab g h i zero p = omega arith
-bytes-tab g h i (suc n) zero = h i
-bytes-tab g h i (suc n) (suc p) = bytes-tab g h (i + 1) n p
-
 mark-byte : (last : Bool) → lastMark last < 256
 mark-byte true = omega arith
 mark-byte false = omega arith
@@ -162,7 +157,7 @@ unfolding front
 bytes-front s k n h b =
     bytes-append (header s k n) (places s k)
     (each-bytes (header s k n) (omega arith, (omega arith, (omega arith, (mark-byte (eqb (k + 1) n), (omega arith, (omega arith, tt)))))))
-    (bytes-tab (λ p. getD s p 0) b (504 * k) 504)
+    (tab-bytes (λ p. getD s (504 * k + p) 0) (λ p. b (504 * k + p)) 504)
 
 bytes-blocks : (s : List ℕ) (n k : ℕ) → k ≤ 12 → Bytes s → Bytes (blocksTo s n k)
 unfolding blocksTo

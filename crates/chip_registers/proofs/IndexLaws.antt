@@ -8,8 +8,9 @@ use mathlib.Core.Path.{_≡_, refl, sym, ap, _∙_}
 use mathlib.Core.List.{List, [], _∷_}
 use lib.Dec.{eqb, leb, leb·suc-suc}
 use lib.Pow.{pow-pos, suc-ones, field, mod-mod-pow, shr-shr}
-use borrow.Author.Tests.{eqb-true, ltb-true, lt-ltb}
+use borrow.Author.Tests.{eqb-true, ltb-true, lt-ltb, leb-true}
 use Rattle.lists.specs.Bits.{bit}
+use Rattle.lists.specs.Scan.{every}
 use Rattle.lists.proofs.Bits.{zero-bit}
 use Rattle.lists.proofs.Tests.{and-both}
 use Rattle.chip_registers.specs.Rows.{Register, rowIn}
@@ -20,11 +21,12 @@ use Rattle.chip_registers.specs.Attribute.{AR}
 use Rattle.chip_registers.specs.Extension.{XR}
 use Rattle.chip_registers.specs.FlatPanel.{FR}
 use Rattle.chip_registers.specs.Multimedia.{MR}
-use Rattle.chip_registers.specs.Groups.{isIndexed, rowOf}
+use Rattle.chip_registers.specs.Groups.{groupAt, isIndexed, rowOf}
 use Rattle.chip_registers.specs.Indexes.{indexBits, indexKept, fits}
 use Rattle.chip_registers.specs.declared.Group.{Group}
 use Rattle.chip_registers.specs.declared.Group.the-variants.{Cr, Sr, Gr, Xr, Fr, Mr, Msr, Palmask, Ar}
 use Rattle.chip_registers.specs.declared.Row.the-variants.{Listed, Unlisted}
+use Rattle.chip_registers.proofs.TableLaws.{every-group}
 
 -- ---- what is kept, and what fits
 pub kept-fits : (g : Group) (v : ℕ) → fits g (indexKept g v) ≡ true
@@ -45,19 +47,10 @@ mask-fits g i = sym (leb·suc-suc i (2 ^ indexBits g - 1)) ∙ ap (leb (suc i)) 
 
 -- an index is a byte at most
 pub kept-byte : (g : Group) (v : ℕ) → indexKept g v < 0x100
-unfolding indexKept
-kept-byte g v = let h = mod-lt v (pow-pos (indexBits g)) in omega (arith, most g)
-  where
-    most : (g : Group) → 2 ^ indexBits g ≤ 0x100
-    most Cr = omega arith
-    most Sr = omega arith
-    most Gr = omega arith
-    most Xr = omega arith
-    most Fr = omega arith
-    most Mr = omega arith
-    most Msr = omega arith
-    most Palmask = omega arith
-    most Ar = omega arith
+unfolding indexKept groupAt every
+kept-byte g v =
+    let few : 2 ^ indexBits g ≤ 0x100 = leb-true (2 ^ indexBits g) 0x100 (every-group (λ h. leb (2 ^ indexBits h) 0x100) refl g) in
+    omega (arith, mod-lt v (pow-pos (indexBits g)))
 
 -- ---- "keeps the bits its chapter shows, and the others read 0"
 pub kept-low : (g : Group) (k v : ℕ) → k < indexBits g → bit k (indexKept g v) ≡ bit k v

@@ -3,11 +3,11 @@
 use Prim.Native.Nat.{ℕ, _<_}
 use native.Mathlib.Omega.{arith}
 use mathlib.Core.Bool.{Bool, true, false, cond, _&&_}
-use mathlib.Core.Path.{_≡_, refl}
+use mathlib.Core.Path.{_≡_, refl, sym, ap, _∙_}
 use mathlib.Core.List.{List, [], _∷_}
 use lib.Dec.{eqb, ltb}
 use lib.ListN.{length}
-use borrow.Author.Tests.{ltb-true}
+use borrow.Author.Tests.{eqb-true, ltb-true}
 use Rattle.chip_registers.specs.Rows.{Register, rowIn}
 use Rattle.chip_registers.specs.CrtController.{CR}
 use Rattle.chip_registers.specs.Sequencer.{SR}
@@ -16,11 +16,13 @@ use Rattle.chip_registers.specs.Attribute.{AR}
 use Rattle.chip_registers.specs.Extension.{XR}
 use Rattle.chip_registers.specs.FlatPanel.{FR}
 use Rattle.chip_registers.specs.Multimedia.{MR}
-use Rattle.chip_registers.specs.Groups.{numberOf, groupAt, rowOf, writableIn, resetIn}
+use Rattle.chip_registers.specs.Groups.{numberOf, groupAt, is, rowOf, writableIn, resetIn}
 use Rattle.chip_registers.specs.declared.Row.{Row}
 use Rattle.chip_registers.specs.declared.Row.the-variants.{Listed}
 use Rattle.chip_registers.specs.declared.Group.{Group}
 use Rattle.chip_registers.specs.declared.Group.the-variants.{Cr, Sr, Gr, Xr, Fr, Mr, Msr, Palmask, Ar}
+use Rattle.lists.specs.Scan.{every}
+use Rattle.lists.proofs.Scan.{every-at}
 use Rattle.lists.proofs.Tests.{and-both}
 
 -- from a table's second row on, each index is above the one before it
@@ -91,6 +93,25 @@ group-numbered Mr = refl
 group-numbered Msr = refl
 group-numbered Palmask = refl
 group-numbered Ar = refl
+
+number-few : (g : Group) → numberOf g < 9
+number-few Cr = omega arith
+number-few Sr = omega arith
+number-few Gr = omega arith
+number-few Xr = omega arith
+number-few Fr = omega arith
+number-few Mr = omega arith
+number-few Msr = omega arith
+number-few Palmask = omega arith
+number-few Ar = omega arith
+
+-- what is tested of the group of each number holds of every group
+pub every-group : (t : Group → Bool) → every (λ k. t (groupAt k)) 0 9 ≡ true → (g : Group) → t g ≡ true
+every-group t e g =
+    ap t (sym (group-numbered g)) ∙ every-at (λ k. t (groupAt k)) 0 9 e (numberOf g) (omega arith) (omega (arith, number-few g))
+
+pub is-same : (g h : Group) → is g h ≡ true → g ≡ h
+is-same g h e = sym (group-numbered g) ∙ ap groupAt (eqb-true _ _ e) ∙ group-numbered h
 
 -- the writable bits and the reset byte of a row are bytes
 abbrev pub Bytes : Row → Type 0

@@ -68,7 +68,7 @@ rowOf Msr i = Listed 0xEF 0x00
 rowOf Palmask i = Listed 0xFF 0x00
 rowOf Ar i = rowIn AR i
 
--- an unlisted index ignores writes and reads 00h
+-- "An unlisted index ignores writes and reads 00h (HOUSE)."
 abbrev pub writableIn : Row → ℕ
 writableIn (Listed w r) = w
 writableIn Unlisted = 0x00

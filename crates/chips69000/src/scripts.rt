@@ -6,7 +6,7 @@ ghost use lib.ListN.{length};
 ghost use Rattle.script.specs.File.{checked};
 ghost use Rattle.script.specs.Numbers.{ofRefusal, ofChecked};
 ghost use Rattle.script_writer.specs.Write.{written, ofWritten, leftBy as listLeftBy};
-ghost use Rattle.script_commands.specs.Translation.{translated, numbersOf, leftBy};
+ghost use Rattle.script_commands.specs.Translation.{translated, ofTranslated, leftBy};
 ghost use Rattle.chip_run.specs.Run.{ran, ofEnding, numberOf as reasonNumber};
 ghost use Rattle.chip_play.specs.Played.{played, ofOutcome};
 ghost use Rattle.lent_chip.specs.Layout.{view, spare};
@@ -71,7 +71,7 @@ fn of_written(w: Written) -> Two
 }
 
 fn of_translated(t: Translated) -> Two
-    ensures { λ r. ⌜ (r .number ≡ numbersOf t .number) × (r .value ≡ numbersOf t .value) ⌝ }
+    ensures { λ r. ⌜ (r .number ≡ ofTranslated t .number) × (r .value ≡ ofTranslated t .value) ⌝ }
 {
     match t {
         Translated::Commands(k) => counted(k),
@@ -150,8 +150,8 @@ pub extern "C" fn chips69000_translate_script(
     commands: &mut [u8],
     value: &mut usize,
 ) -> u8
-    ensures { λ r. ⌜ r ≡ numbersOf (translated (now (file .entry)) (length (now (commands .entry)))) .number ⌝ }
-    ensures { λ _. ⌜ now (value .exit) ≡ numbersOf (translated (now (file .entry)) (length (now (commands .entry)))) .value ⌝ }
+    ensures { λ r. ⌜ r ≡ ofTranslated (translated (now (file .entry)) (length (now (commands .entry)))) .number ⌝ }
+    ensures { λ _. ⌜ now (value .exit) ≡ ofTranslated (translated (now (file .entry)) (length (now (commands .entry)))) .value ⌝ }
     ensures { λ _. ⌜ now (commands .exit) ≡ leftBy (translated (now (file .entry)) (length (now (commands .entry)))) (now (file .entry)) (now (commands .entry)) ⌝ }
 {
     let t = of_translated(translate(file, commands));

@@ -1,16 +1,18 @@
 -- A store of one byte, as a change of the chip. The regions do not overlap, so a store changes one cell (`cell-set`); with the
 -- region a literal every other part of the chip computes back to what it was. Then the same for a register, for the three bytes
 -- of an entry, and for a single byte.
-use Prim.Native.Nat.{ℕ, suc, zero, _+_, _*_, _/_, _%_, _<_, _≤_}
+use Prim.Native.Nat.{ℕ, suc, _+_, _*_, _/_, _%_, _<_, _≤_}
 use mathlib.Core.Path.{_≡_, refl, ap, fun-ext, _∙_}
 use mathlib.Core.Bool.{Bool, true, false, cond}
-use mathlib.Core.List.{List, _∷_}
+use mathlib.Core.List.{List}
 use lib.Dec.{eqb, ltb}
 use lib.ListN.{getD, set, length, length-set}
 use lib.Seq.{getD-set-same, getD-set-other}
 use native.Mathlib.Nat.{add-zero}
 use native.Mathlib.Omega.{arith}
 use borrow.Author.Tests.{ltb-true, ltb-false, eqb-true, eqb-false, lt-ltb, eq-eqb, ne-eqb}
+use Rattle.lists.specs.Tab.{tab}
+use Rattle.lists.proofs.Tab.{tab-at, tab-set}
 use Rattle.chip_registers.specs.declared.Group.{Group}
 use Rattle.chip_registers.specs.declared.Group.the-variants.{Cr, Sr, Gr, Xr, Fr, Mr, Msr, Palmask, Ar}
 use Rattle.chip.specs.State.{named, join, withNamed}
@@ -18,7 +20,7 @@ use Rattle.chip.specs.Names.{register, replaced}
 use Rattle.chip.specs.Palette.{rgb, entry, withPalette}
 use Rattle.chip.specs.declared.Chip.{Chip}
 use Rattle.chip.specs.declared.Rgb.{Rgb}
-use Rattle.lent_chip.specs.Layout.{start, size, whole, cell, rows, chipOf, view, placeOf}
+use Rattle.lent_chip.specs.Layout.{start, size, whole, cell, chipOf, view, placeOf}
 
 -- the cells with one replaced
 abbrev pub update : (ℕ → ℕ → ℕ) → ℕ → ℕ → ℕ → ℕ → ℕ → ℕ
@@ -61,20 +63,8 @@ module _ (l : List ℕ) (q i v : ℕ) (h : i < size q) (w : start q + i < length
     go r k true false x y = elsewhere r k (λ _. eqb-false k i y)
     go r k false b x y = elsewhere r k (λ e _. eqb-false r q x e)
 
--- the list of a function's values
-pub rows-at : {A : Type 0} (f : ℕ → A) (n i : ℕ) (d : A) → i < n → getD (rows f n) i d ≡ f i
-unfolding rows
-rows-at f (suc n) zero d h = refl
-rows-at f (suc n) (suc i) d h = rows-at (λ k. f (suc k)) n i d (omega arith)
-
--- changed at i only, the list is set there
-pub rows-set : {A : Type 0} (f g : ℕ → A) (n i : ℕ) → i < n → ((k : ℕ) → (k ≡ i → ⊥) → g k ≡ f k) → rows g n ≡ set (rows f n) i (g i)
-unfolding rows
-rows-set {A} f g (suc n) zero h e = ap (λ (t : ℕ → A). g 0 ∷ rows t n) (fun-ext (λ k. e (suc k) (λ s. omega arith)))
-rows-set f g (suc n) (suc i) h e = rw (e 0 (λ s. omega arith), rows-set (λ k. f (suc k)) (λ k. g (suc k)) n i (omega arith) (λ k s. e (suc k) (λ t. s (omega arith))))
-
-pub table-set : (s : ℕ → ℕ) (n i v : ℕ) → i < n → rows (λ k. cond (eqb k i) v (s k)) n ≡ set (rows s n) i v
-table-set s n i v h = rows-set s (λ k. cond (eqb k i) v (s k)) n i h (λ k e. rw (ne-eqb k i e)) ∙ rw (eq-eqb i i refl)
+pub table-set : (s : ℕ → ℕ) (n i v : ℕ) → i < n → tab (λ k. cond (eqb k i) v (s k)) n ≡ set (tab s n) i v
+table-set s n i v h = tab-set s (λ k. cond (eqb k i) v (s k)) n i h (λ k e. rw (ne-eqb k i e)) ∙ rw (eq-eqb i i refl)
 
 -- one byte stored in region q
 pub view-set : (l : List ℕ) (q i v : ℕ) → i < size q → start q + i < length l → view (set l (start q + i) v) ≡ chipOf (update (cell l) q i v)
@@ -95,9 +85,9 @@ set-reg Msr l i v n h = view-set l 8 0 v (omega arith) (omega arith)
 set-reg Palmask l i v n h = view-set l 8 1 v (omega arith) (omega arith)
 set-reg Ar l i v n h = view-set l 6 i v h (omega arith) ∙ rw (table-set (cell l 6) 256 i v h)
 
-pub get-table : (l : List ℕ) (q i : ℕ) → i < size q → getD (rows (cell l q) (size q)) i 0 ≡ getD l (start q + i) 0
+pub get-table : (l : List ℕ) (q i : ℕ) → i < size q → getD (tab (cell l q) (size q)) i 0 ≡ getD l (start q + i) 0
 unfolding cell
-get-table l q i h = rows-at (cell l q) (size q) i 0 h ∙ rw (lt-ltb i (size q) h)
+get-table l q i h = tab-at (cell l q) (size q) i 0 h ∙ rw (lt-ltb i (size q) h)
 
 pub get-reg : (g : Group) (l : List ℕ) (i : ℕ) → i < 256 → register g (named (view l)) i ≡ getD l (placeOf g i) 0
 unfolding view placeOf cell
@@ -131,9 +121,9 @@ three-green s e r g b = rw (ne-eqb (3 * e + 1) (3 * e + 2) (λ t. omega arith), 
 three-blue : (s : ℕ → ℕ) (e r g b : ℕ) → three s e r g b (3 * e + 2) ≡ b
 three-blue s e r g b = rw (eq-eqb (3 * e + 2) (3 * e + 2) refl)
 
-colours-set : (s : ℕ → ℕ) (n e r g b : ℕ) → e < n → rows (colourAt (three s e r g b)) n ≡ set (rows (colourAt s) n) e (rgb r g b)
+colours-set : (s : ℕ → ℕ) (n e r g b : ℕ) → e < n → tab (colourAt (three s e r g b)) n ≡ set (tab (colourAt s) n) e (rgb r g b)
 colours-set s n e r g b h =
-    rows-set (colourAt s) (colourAt (three s e r g b)) n e h
+    tab-set (colourAt s) (colourAt (three s e r g b)) n e h
     (λ k d. let z : three s e r g b (3 * k) ≡ s (3 * k) = simp add-zero at (beside s e r g b k 0 d (omega arith)) in rw (z, beside s e r g b k 1 d (omega arith), beside s e r g b k 2 d (omega arith)))
     ∙ rw (three-red s e r g b, three-green s e r g b, three-blue s e r g b)
 
@@ -159,7 +149,7 @@ pub get-colour : (l : List ℕ) (e : ℕ) → e < 256 →
     entry (named (view l)) e ≡ rgb (getD l (1792 + 3 * e) 0) (getD l (1792 + (3 * e + 1)) 0) (getD l (1792 + (3 * e + 2)) 0)
 unfolding view cell
 get-colour l e h =
-    rows-at (colourAt (cell l 7)) 256 e (rgb 0 0 0) h
+    tab-at (colourAt (cell l 7)) 256 e (rgb 0 0 0) h
     ∙ rw (lt-ltb (3 * e) 768 (omega arith), lt-ltb (3 * e + 1) 768 (omega arith), lt-ltb (3 * e + 2) 768 (omega arith))
 
 -- a single byte: MSR, PALMASK, the indexes, the palette's index, position and held bytes, and the byte of flags

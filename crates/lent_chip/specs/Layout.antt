@@ -8,9 +8,10 @@
 use Prim.Native.Nat.{ℕ, suc, zero, _+_, _*_, _/_, _%_}
 use mathlib.Core.Path.{_≡_}
 use mathlib.Core.Bool.{cond}
-use mathlib.Core.List.{List, [], _∷_}
+use mathlib.Core.List.{List}
 use lib.Dec.{eqb, ltb}
 use lib.ListN.{getD, length}
+use Rattle.lists.specs.Tab.{tab}
 use Rattle.chip_registers.specs.declared.Group.{Group}
 use Rattle.chip_registers.specs.declared.Group.the-variants.{Cr, Sr, Gr, Xr, Fr, Mr, Msr, Palmask, Ar}
 use Rattle.chip.specs.State.{join}
@@ -33,27 +34,22 @@ whole = 2574
 unfoldable pub cell : List ℕ → ℕ → ℕ → ℕ
 cell l q i = cond (ltb i (size q)) (getD l (start q + i) 0) 0
 
--- f at 0, 1, .. below n
-unfoldable pub rows : {A : Type 0} → (ℕ → A) → ℕ → List A
-rows f zero = []
-rows f (suc n) = f 0 ∷ rows (λ i. f (suc i)) n
-
 -- the chip whose region q has s q i as byte i
 abbrev pub chipOf : (ℕ → ℕ → ℕ) → Chip
 chipOf s =
     join
     (record {
-      cr = rows (s 0) 256;
-      sr = rows (s 1) 256;
-      gr = rows (s 2) 256;
-      xr = rows (s 3) 256;
-      fr = rows (s 4) 256;
-      mr = rows (s 5) 256;
-      ar = rows (s 6) 256;
+      cr = tab (s 0) 256;
+      sr = tab (s 1) 256;
+      gr = tab (s 2) 256;
+      xr = tab (s 3) 256;
+      fr = tab (s 4) 256;
+      mr = tab (s 5) 256;
+      ar = tab (s 6) 256;
       msr = s 8 0;
       palmask = s 8 1;
       picture = eqb (s 8 13 / 4 % 2) 1;
-      palette = rows (λ e. rgb (s 7 (3 * e)) (s 7 (3 * e + 1)) (s 7 (3 * e + 2))) 256;
+      palette = tab (λ e. rgb (s 7 (3 * e)) (s 7 (3 * e + 1)) (s 7 (3 * e + 2))) 256;
     })
     (record {
       cr = s 8 2;

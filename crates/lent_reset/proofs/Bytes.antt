@@ -1,37 +1,27 @@
 -- Bytes that are a reset's one by one hold the chip that `reset` gives: each table by its elements, the palette and the rest by 0.
 use Prim.Native.Nat.{ℕ, zero, suc, _+_, _*_, _/_, _%_, _<_, _≤_}
-use mathlib.Core.Path.{_≡_, refl, ap, _∙_, sym}
+use mathlib.Core.Path.{_≡_, refl, ap, _∙_}
 use mathlib.Core.Bool.{Bool, true, false}
-use mathlib.Core.List.{List}
+use mathlib.Core.List.{List, _∷_}
 use lib.Dec.{eqb}
 use lib.ListN.{getD, length, replicate, set}
-use lib.Seq.{ext-getD, getD-set-same, getD-set-other}
+use lib.Seq.{getD-set-same, getD-set-other}
 use native.Mathlib.Omega.{arith}
 use borrow.Author.Tests.{lt-ltb, le-ltb, ne-eqb, eqb-true, eqb-false}
-use Rattle.chip_registers.specs.declared.Group.the-variants.{Cr, Sr, Gr, Xr, Fr, Mr, Msr, Palmask, Ar}
+use Rattle.lists.specs.Tab.{tab}
+use Rattle.lists.proofs.Tab.{tab-same}
+use Rattle.chip_registers.specs.declared.Group.the-variants.{Msr, Palmask}
 use Rattle.chip_registers.specs.Groups.{tableAt}
 use Rattle.chip.specs.Palette.{rgb}
-use Rattle.chip.specs.Reset.{resetByte, filled, reset}
-use Rattle.chip.proofs.ResetLaws.{length-filled, register-reset}
-use Rattle.lent_chip.specs.Layout.{start, size, whole, cell, rows, view, spare, Holds}
-use Rattle.lent_chip.proofs.Stores.{rows-at}
+use Rattle.chip.specs.Reset.{resetByte, reset}
+use Rattle.lent_chip.specs.Layout.{start, size, whole, cell, view, spare, Holds}
 use Rattle.lent_reset.specs.Fresh.{freshByte}
 
-length-rows : {A : Type 0} (f : ℕ → A) (n : ℕ) → length (rows f n) ≡ n
-unfolding rows
-length-rows f zero = refl
-length-rows f (suc n) = ap suc (length-rows (λ i. f (suc i)) n)
-
-rows-one : {A : Type 0} (f : ℕ → A) (x : A) (n : ℕ) → ((k : ℕ) → k < n → f k ≡ x) → rows f n ≡ replicate n x
-unfolding rows
-rows-one f x zero h = refl
-rows-one f x (suc n) h = rw (h 0 (omega arith), rows-one (λ i. f (suc i)) x n (λ k w. h (suc k) (omega arith)))
-
--- a table by its elements
-rows-filled : (f g : ℕ → ℕ) (n : ℕ) → (t : List ℕ) → length t ≡ n → ((k : ℕ) → k < n → getD t k 0 ≡ g k) → ((k : ℕ) → k < n → f k ≡ g k) → rows f n ≡ t
-rows-filled f g n t s at h =
-    ext-getD 0 (rows f n) t (length-rows f n ∙ sym s)
-    (λ k w. let u : k < n = rw (length-rows f n) at w in rows-at f n k 0 u ∙ h k u ∙ sym (at k u))
+-- a list of one thing
+tab-one : {A : Type 0} (x : A) (n : ℕ) → tab (λ (k : ℕ). x) n ≡ replicate n x
+unfolding tab
+tab-one x zero = refl
+tab-one x (suc n) = ap (_∷_ x) (tab-one x n)
 
 -- one byte more
 pub each-next : (f : ℕ → ℕ) (l : List ℕ) (k v : ℕ) → k < length l → v ≡ f k → ((j : ℕ) → j < k → getD l j 0 ≡ f j) → (j : ℕ) → j < k + 1 → getD (set l k v) j 0 ≡ f j
@@ -55,12 +45,9 @@ module _ (first second : ℕ) (l : List ℕ) (n : length l ≡ whole) (each : (k
   nothing k a b x y = each k b ∙ rw (le-ltb k 1792 a, ne-eqb k 2560 x, ne-eqb k 2561 y)
 
   -- a table, at a literal number
-  table : (q : ℕ) → q < 7 → start q ≡ 256 * q → size q ≡ 256 → (t : List ℕ) → length t ≡ 256
-      → ((k : ℕ) → k < 256 → getD t k 0 ≡ resetByte first second (tableAt q) k) → rows (cell l q) 256 ≡ t
+  table : (q : ℕ) → q < 7 → start q ≡ 256 * q → size q ≡ 256 → tab (cell l q) 256 ≡ tab (resetByte first second (tableAt q)) 256
   unfolding cell
-  table q h s z t size at =
-      rows-filled (cell l q) (resetByte first second (tableAt q)) 256 t size at
-      (λ k w. rw (z, lt-ltb k 256 w, s) (in-table q h k w))
+  table q h s z = tab-same (cell l q) (resetByte first second (tableAt q)) 256 (λ k w. rw (z, lt-ltb k 256 w, s) (in-table q h k w))
 
   black : (e : ℕ) → e < 256 → rgb (cell l 7 (3 * e)) (cell l 7 (3 * e + 1)) (cell l 7 (3 * e + 2)) ≡ rgb 0 0 0
   unfolding cell
@@ -88,17 +75,17 @@ module _ (first second : ℕ) (l : List ℕ) (n : length l ≡ whole) (each : (k
   pub fresh-view : view l ≡ reset first second
   unfolding view cell reset tableAt
   fresh-view = λ i. record {
-    cr = table 0 (omega arith) refl refl (filled (resetByte first second Cr) 256) (length-filled (resetByte first second Cr) 256) (λ k w. register-reset first second Cr k w) i;
-    sr = table 1 (omega arith) refl refl (filled (resetByte first second Sr) 256) (length-filled (resetByte first second Sr) 256) (λ k w. register-reset first second Sr k w) i;
-    gr = table 2 (omega arith) refl refl (filled (resetByte first second Gr) 256) (length-filled (resetByte first second Gr) 256) (λ k w. register-reset first second Gr k w) i;
-    xr = table 3 (omega arith) refl refl (filled (resetByte first second Xr) 256) (length-filled (resetByte first second Xr) 256) (λ k w. register-reset first second Xr k w) i;
-    fr = table 4 (omega arith) refl refl (filled (resetByte first second Fr) 256) (length-filled (resetByte first second Fr) 256) (λ k w. register-reset first second Fr k w) i;
-    mr = table 5 (omega arith) refl refl (filled (resetByte first second Mr) 256) (length-filled (resetByte first second Mr) 256) (λ k w. register-reset first second Mr k w) i;
-    ar = table 6 (omega arith) refl refl (filled (resetByte first second Ar) 256) (length-filled (resetByte first second Ar) 256) (λ k w. register-reset first second Ar k w) i;
+    cr = table 0 (omega arith) refl refl i;
+    sr = table 1 (omega arith) refl refl i;
+    gr = table 2 (omega arith) refl refl i;
+    xr = table 3 (omega arith) refl refl i;
+    fr = table 4 (omega arith) refl refl i;
+    mr = table 5 (omega arith) refl refl i;
+    ar = table 6 (omega arith) refl refl i;
     msr = msr-at i;
     palmask = palmask-at i;
     picture = ap (λ (x : ℕ). eqb (x / 4 % 2) 1) (zero-at 2573 (omega arith) (omega arith)) i;
-    palette = rows-one (λ e. rgb (cell l 7 (3 * e)) (cell l 7 (3 * e + 1)) (cell l 7 (3 * e + 2))) (rgb 0 0 0) 256 black i;
+    palette = (tab-same (λ e. rgb (cell l 7 (3 * e)) (cell l 7 (3 * e + 1)) (cell l 7 (3 * e + 2))) (λ e. rgb 0 0 0) 256 black ∙ tab-one (rgb 0 0 0) 256) i;
     indexes = record {
       cr = zero-at 2562 (omega arith) (omega arith) i;
       sr = zero-at 2563 (omega arith) (omega arith) i;

@@ -60,17 +60,17 @@ use Rattle.script_steps.specs.declared.StepRead.the-variants.{Good, Refused}
 use Rattle.script_steps.specs.declared.Fault.the-variants.{Unallowed, Idle}
 use Rattle.script_steps.proofs.Lawful as lawful
 use Rattle.script.specs.File.{blocks, checked}
-use Rattle.script.specs.Numbers.{ofChecked, fileTable}
+use Rattle.script.specs.Numbers.{ofChecked, checkedTable}
 use Rattle.script.specs.Reader.{nextOf}
 use Rattle.script.specs.declared.Checked.the-variants.{Accepted}
 use Rattle.script.specs.declared.Next.the-variants.{End}
 use Rattle.script.proofs.Checking as checking
-use Rattle.script_writer.specs.Write.{fileOf, written as listWritten, leftBy as listLeftBy, ofWritten, listTable, stepsOf}
+use Rattle.script_writer.specs.Write.{fileOf, written as listWritten, leftBy as listLeftBy, ofWritten, writtenTable, stepsOf}
 use Rattle.script_writer.specs.declared.Written.the-variants.{Blocks}
 use Rattle.script_writer.proofs.RoundTrip as round-trip
 use Rattle.script_writer.proofs.Writing as writing
 use Rattle.script_commands.specs.Command.{bytesOfAll}
-use Rattle.script_commands.specs.Translation.{stepsTo, commandsTo, begins, translated, numbersOf, translationTable}
+use Rattle.script_commands.specs.Translation.{stepsTo, commandsTo, begins, translated, ofTranslated, translatedTable}
 use Rattle.script_commands.proofs.Translating as translating
 use Rattle.script_commands.proofs.Counted as counted
 use Rattle.script_commands.proofs.Counted.{sixes, placesTo}
@@ -132,14 +132,14 @@ pub refused-transfer : (m : List ℕ) (t : Transfer) → (judgedNumber (length m
 refused-transfer = blit-laws.refused-numbered
 
 -- A script file: document 01's table, 8, 6, 7 or 11, else the number of its steps.
-pub file-numbers : (f : List ℕ) → ofChecked (checked f) ≡ fileTable f
+pub file-numbers : (f : List ℕ) → ofChecked (checked f) ≡ checkedTable f
 file-numbers = checking.checked-number
 
 -- A list of steps written, and a file translated: 8, 6 of a file, 7 or 11, 9, else what there is.
-pub list-numbers : (l : List ℕ) (room : ℕ) → ofWritten (listWritten l room) ≡ listTable l room
+pub list-numbers : (l : List ℕ) (room : ℕ) → ofWritten (listWritten l room) ≡ writtenTable l room
 list-numbers = writing.written-number
 
-pub translation-numbers : (f : List ℕ) (room : ℕ) → numbersOf (translated f room) ≡ translationTable f room
+pub translation-numbers : (f : List ℕ) (room : ℕ) → ofTranslated (translated f room) ≡ translatedTable f room
 translation-numbers = translating.translated-number
 
 -- A run: 10 for the length, before any runs; else the number of the command behind those carried out, 10 for no known form, else that of

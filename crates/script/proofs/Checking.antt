@@ -13,7 +13,7 @@ use Rattle.lists.proofs.Tests.{of-cond}
 use Rattle.lists.specs.Numbers.{Returned, returned}
 use Rattle.script_steps.specs.declared.Fault.{Fault}
 use Rattle.script.specs.File.{wholeBlocks, blocks, legalAt, firstBadBlock, stepCount, firstBadStep, stepsChecked, checked}
-use Rattle.script.specs.Numbers.{ofRefusal, ofChecked, checksTable, fileTable}
+use Rattle.script.specs.Numbers.{ofRefusal, ofChecked, checksTable, checkedTable}
 use Rattle.script.specs.declared.Layout.the-variants.{Blocks}
 use Rattle.script.specs.declared.Refusal.{Refusal}
 use Rattle.script.specs.declared.Refusal.the-variants.{Length, Block, Step, Room}
@@ -22,14 +22,14 @@ use Rattle.script.specs.declared.Checked.the-variants.{Accepted, Refused
 use Rattle.script.proofs.StepLaws.{BadAt, StepsSay, steps-say, say-steps, steps-number}
 
 -- ---- number and value: the table of document 01 is what the answer says
-pub checked-number : (f : List ℕ) → ofChecked (checked f) ≡ fileTable f
+pub checked-number : (f : List ℕ) → ofChecked (checked f) ≡ checkedTable f
 unfolding checked
 checked-number f =
     simp (of-cond ofChecked)
     (ap (λ (x : Returned). cond (not (wholeBlocks f)) (returned 8 0) (cond (ltb (firstBadBlock f) (blocks f)) (returned 6 (firstBadBlock f)) x))
     (steps-number ofChecked (λ r. refl) Blocks f (stepCount f)))
 
-pub answered : (f : List ℕ) {r : Checked} → checked f ≡ r → (r ≡ checked f) × (ofChecked r ≡ fileTable f)
+pub answered : (f : List ℕ) {r : Checked} → checked f ≡ r → (r ≡ checked f) × (ofChecked r ≡ checkedTable f)
 answered f e = (sym e, ap ofChecked (sym e) ∙ checked-number f)
 
 -- ---- the answer, case by case in its order
@@ -42,7 +42,7 @@ module _ (f : List ℕ) (w : wholeBlocks f ≡ true) (k : ℕ) (e : k ≡ firstB
   unfolding checked
   check-block h = rw (w, ← e, lt-ltb _ _ h)
 
-  pub check-all : blocks f ≤ k → checked f ≡ stepsChecked Blocks f (stepCount f)
+  pub check-all : blocks f ≤ k → checked f ≡ stepsChecked Blocks f 0 (stepCount f)
   unfolding checked
   check-all h = rw (w, ← e, le-ltb _ _ h)
 
@@ -93,7 +93,7 @@ checked-says f =
         rw (check-block f ea (firstBadBlock f) refl h) (record { whole = ea; first = refl; there = h })
     go true ea false eb =
         rw (check-all f ea (firstBadBlock f) refl (ltb-false _ _ eb))
-        (all-steps ea (all-blocks eb) (stepsChecked Blocks f (stepCount f)) (steps-say Blocks f (stepCount f)))
+        (all-steps ea (all-blocks eb) (stepsChecked Blocks f 0 (stepCount f)) (steps-say Blocks f (stepCount f)))
 
 -- and what is so decides it
 pub says-checked : (f : List ℕ) (r : Checked) → Says f r → checked f ≡ r
@@ -114,9 +114,9 @@ answer-says f e = subst (Says f) e (checked-says f)
 pub accepted-table : (f : List ℕ) (m : ℕ) → checked f ≡ Accepted m → (x : Returned) → checksTable f x ≡ x
 accepted-table f m acc x =
     let l : Legal f m = answer-says f acc in
-    let b : ltb (firstBadBlock f) (blocks f) ≡ false = le-ltb (firstBadBlock f) (blocks f) (omega (arith, l .blocks-legal)) in
+    let b : ltb (firstBadBlock f) (blocks f) ≡ false = le-ltb (firstBadBlock f) (blocks f) (omega arith) in
     let s : ltb (firstBadStep Blocks f (stepCount f)) (stepCount f) ≡ false =
-    ap (λ (n : ℕ). ltb (firstBadStep Blocks f n) n) (l .count) ∙ le-ltb (firstBadStep Blocks f m) m (omega (arith, l .steps-legal)) in
+    ap (λ (n : ℕ). ltb (firstBadStep Blocks f n) n) (l .count) ∙ le-ltb (firstBadStep Blocks f m) m (omega arith) in
     rw (l .whole, b, s)
 
 pub refused-table : (f : List ℕ) (why : Refusal) → checked f ≡ Refused why → (x : Returned) → checksTable f x ≡ ofRefusal why
@@ -126,6 +126,6 @@ refused-table f why e x = go why (answer-says f e)
     go Length w = rw w
     go (Block k) b = rw (b .whole, b .first, lt-ltb _ _ (b .there))
     go (Step j why) b =
-        let q : ltb (firstBadBlock f) (blocks f) ≡ false = le-ltb (firstBadBlock f) (blocks f) (omega (arith, b .blocks-legal)) in
+        let q : ltb (firstBadBlock f) (blocks f) ≡ false = le-ltb (firstBadBlock f) (blocks f) (omega arith) in
         rw (b .whole, q, b .bad .first, lt-ltb _ _ (b .bad .there), b .bad .read)
     go Room w = absurd w

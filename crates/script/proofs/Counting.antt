@@ -56,7 +56,7 @@ long-refused f h = go (wholeBlocks f) refl
   where
     go : (b : Bool) → wholeBlocks f ≡ b → b ≡ false
     go false e = refl
-    go true e = absurd (let u = units 512 12 (length f) e in omega (arith, u .even, u .few))
+    go true e = absurd (let u = units 512 12 (length f) e in omega arith)
 
 -- whatever is the same for all files that are too long is the same of a file and of its first 6,145 bytes
 pub start-decides : {A : Type 0} (g : List ℕ → A) (x : A) → ((f : List ℕ) → 6144 < length f → g f ≡ x) → (f : List ℕ) → g (take 6145 f) ≡ g f

@@ -86,11 +86,11 @@ handed f j h g = go (stepAt Blocks f j) refl g
 pub accepted-handed : (f : List ℕ) (m : ℕ) → checked f ≡ Accepted m → (j : ℕ) → j < m → Handed f j
 accepted-handed f m acc j h =
     let l : Legal f m = answer-says f acc in
-    handed f j (omega (arith, l .count)) (end-first (λ i. isGood (stepAt Blocks f i)) m (l .steps-legal) j h)
+    handed f j (omega arith) (end-first (λ i. isGood (stepAt Blocks f i)) m (l .steps-legal) j h)
 
 -- .. and then the end
 pub accepted-end : (f : List ℕ) (m : ℕ) → checked f ≡ Accepted m → (j : ℕ) → m ≤ j → nextOf f j ≡ End
-accepted-end f m acc j h = let l : Legal f m = answer-says f acc in next-past f j (omega (arith, l .count))
+accepted-end f m acc j h = let l : Legal f m = answer-says f acc in next-past f j (omega arith)
 
 -- step after step: n turns stand at step n, and past the last step they stand still
 pub accepted-stood : (f : List ℕ) (m : ℕ) → checked f ≡ Accepted m → (n : ℕ) → stood f n ≡ min n m
@@ -120,6 +120,6 @@ refused-stopped f j why e =
     let s : BadStep f j why = answer-says f e in
     let b = s .bad in
     record {
-      before = λ i h. handed f i (omega (arith, b .there)) (first-before (λ i. isGood (stepAt Blocks f i)) (stepCount f) i (omega (arith, b .first)));
+      before = λ i h. handed f i (omega arith) (first-before (λ i. isGood (stepAt Blocks f i)) (stepCount f) i (omega arith));
       there = next-there f j (b .there) ∙ ap (λ r. asNext r j) (b .read);
     }

@@ -2,7 +2,7 @@
 -- Numbers returned): 8, then 6 over all blocks, then 7 or, by document 02, P2, 11. The first offending place
 -- is given, counted from 0, a step over the whole file. What a block has to be is specs/Block, what a step
 -- has to be the crate script_steps.
-use Prim.Native.Nat.{ℕ, _+_, _-_, _*_, _/_, _%_}
+use Prim.Native.Nat.{ℕ, zero, suc, _+_, _-_, _*_, _/_, _%_}
 use mathlib.Core.List.{List}
 use mathlib.Core.Bool.{Bool, cond, not}
 use lib.ListN.{length, getD, take, drop}
@@ -52,21 +52,19 @@ stepAt layout f j = readAt f (stepPlace layout j)
 abbrev pub firstBadStep : Layout → List ℕ → ℕ → ℕ
 firstBadStep layout f m = firstNot (λ j. isGood (stepAt layout f j)) 0 m
 
--- the answer for a step that is read as step j: its refusal, or what else there is to answer
+-- the answer for a step that is read as step j: its refusal, or what the steps after it come to
 abbrev pub orRefused : StepRead → ℕ → Checked → Checked
 orRefused (Good s) j rest = rest
 orRefused (NoStep why) j rest = Refused (Step j why)
 
--- m steps: the first that does not pass is the answer, refused for what is wrong with it; else there are m
-unfoldable pub stepsChecked : Layout → List ℕ → ℕ → Checked
-stepsChecked layout f m =
-    cond (ltb (firstBadStep layout f m) m)
-    (orRefused (stepAt layout f (firstBadStep layout f m)) (firstBadStep layout f m) (Accepted m))
-    (Accepted m)
+-- the n steps from step j on: the first that does not pass is refused for what is wrong with it; else where they end
+unfoldable pub stepsChecked : Layout → List ℕ → ℕ → ℕ → Checked
+stepsChecked layout f j zero = Accepted j
+stepsChecked layout f j (suc n) = orRefused (stepAt layout f j) j (stepsChecked layout f (j + 1) n)
 
 -- 8, 6, then 7 or 11; else the number of steps
 unfoldable pub checked : List ℕ → Checked
 checked f =
     cond (not (wholeBlocks f)) (Refused Length)
     (cond (ltb (firstBadBlock f) (blocks f)) (Refused (Block (firstBadBlock f)))
-    (stepsChecked Blocks f (stepCount f)))
+    (stepsChecked Blocks f 0 (stepCount f)))

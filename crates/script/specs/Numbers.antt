@@ -52,5 +52,5 @@ checksTable f rest =
     (cond (ltb (firstBadBlock f) (blocks f)) (returned 6 (firstBadBlock f))
     (stepsTable Blocks f (stepCount f) rest))
 
-abbrev pub fileTable : List ℕ → Returned
-fileTable f = checksTable f (returned 0 (stepCount f))
+abbrev pub checkedTable : List ℕ → Returned
+checkedTable f = checksTable f (returned 0 (stepCount f))

@@ -6,11 +6,11 @@ ghost use mathlib.Core.Path.{_≡_};
 ghost use Prim.Native.Nat.{_+_, _*_, _%_, _/_, _≤_};
 ghost use lib.ListN.{length, take, drop};
 ghost use Rattle.lists.specs.Numbers.{returned};
-ghost use Rattle.script_steps.specs.Step.{readNumber, bytesTable};
+ghost use Rattle.script_steps.specs.Step.{stepReadNumber, bytesTable};
 ghost use Rattle.script.specs.Block.{wordSum, checkWord, lastMark, countLegal, unusedZero, contentLegal, blockLegal};
-ghost use Rattle.script.specs.File.{firstBadBlock, stepCount, stepPlace, stepAt, firstBadStep, stepsChecked, checked};
+ghost use Rattle.script.specs.File.{firstBadBlock, stepCount, stepPlace, stepAt, stepsChecked, checked};
 ghost use Rattle.script.specs.Reader.{asNext, nextOf, turned};
-ghost use Rattle.script.specs.Numbers.{ofRefusal, ofChecked, ofNext, nextTable, stepsTable, fileTable};
+ghost use Rattle.script.specs.Numbers.{ofRefusal, ofChecked, ofNext, nextTable, stepsTable, checkedTable};
 use lists::is_whole;
 use lists::wide;
 use script_steps::Fault;
@@ -200,7 +200,7 @@ fn ahead(layout: Layout, j: usize) -> usize
 // The step at a place, or the refusal.
 pub fn step_at(list: &[u8], layout: Layout, j: usize) -> StepRead
     ensures { λ r. ⌜ r ≡ stepAt layout (now (list .entry)) j ⌝ }
-    ensures { λ r. ⌜ readNumber r ≡ bytesTable (take 6 (drop (stepPlace layout j) (now (list .entry)))) ⌝ }
+    ensures { λ r. ⌜ stepReadNumber r ≡ bytesTable (take 6 (drop (stepPlace layout j) (now (list .entry)))) ⌝ }
 {
     let skip = ahead(layout, j);
     if list.len() < skip {
@@ -212,39 +212,25 @@ pub fn step_at(list: &[u8], layout: Layout, j: usize) -> StepRead
     read_at(list, skip + 6 * j)
 }
 
-// The first of `count` steps that does not pass, or `count`.
-fn first_bad_step(list: &[u8], layout: Layout, count: usize) -> usize
-    ensures { λ r. ⌜ r ≡ firstBadStep layout (now (list .entry)) count ⌝ }
+// So many steps checked: why the first that does not pass is refused, or that all of them pass.
+pub fn check_steps(list: &[u8], layout: Layout, count: usize) -> Checked
+    ensures { λ r. ⌜ r ≡ stepsChecked layout (now (list .entry)) 0 count ⌝ }
+    ensures { λ r. ⌜ ofChecked r ≡ stepsTable layout (now (list .entry)) count (returned 0 count) ⌝ }
 {
     let mut j = 0;
     while j < count {
-        let StepRead::Good(_) = step_at(list, layout, j) else {
-            return j;
-        };
+        if let StepRead::Refused(why) = step_at(list, layout, j) {
+            return Checked::Refused(Refusal::Step(j, why));
+        }
         j += 1;
     }
-    j
-}
-
-// So many steps checked: why the first that does not pass is refused, or that all of them pass.
-pub fn check_steps(list: &[u8], layout: Layout, count: usize) -> Checked
-    ensures { λ r. ⌜ r ≡ stepsChecked layout (now (list .entry)) count ⌝ }
-    ensures { λ r. ⌜ ofChecked r ≡ stepsTable layout (now (list .entry)) count (returned 0 count) ⌝ }
-{
-    let j = first_bad_step(list, layout, count);
-    if count <= j {
-        return Checked::Accepted(count);
-    }
-    match step_at(list, layout, j) {
-        StepRead::Good(_) => Checked::Accepted(count),
-        StepRead::Refused(why) => Checked::Refused(Refusal::Step(j, why)),
-    }
+    Checked::Accepted(j)
 }
 
 // A file checked: 8, then 6 over all blocks, then 7 or 11; else its number of steps.
 pub fn check_file(file: &[u8]) -> Checked
     ensures { λ r. ⌜ r ≡ checked (now (file .entry)) ⌝ }
-    ensures { λ r. ⌜ ofChecked r ≡ fileTable (now (file .entry)) ⌝ }
+    ensures { λ r. ⌜ ofChecked r ≡ checkedTable (now (file .entry)) ⌝ }
 {
     if !is_whole(file.len(), 512, 12) {
         return Checked::Refused(Refusal::Length);

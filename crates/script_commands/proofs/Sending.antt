@@ -7,7 +7,7 @@ use lib.ListN.{length, getD, set, length-append}
 use Rattle.lists.specs.Put.{put}
 use Rattle.lists.proofs.Put.{put-nil, put-four, put-then, length-put}
 use Rattle.script_commands.specs.Command.{bytesOf, bytesOfAll}
-use Rattle.script_commands.specs.Translation.{Sent}
+use Rattle.script_commands.specs.Working.{Sent}
 use Rattle.script_commands.specs.declared.Command.{Command}
 use Rattle.script_commands.proofs.Codec.{bytes-append, length-bytes, bytes-by-four}
 

@@ -25,7 +25,8 @@ use Rattle.script.proofs.Checking.{Legal, answer-says, accepted-table, refused-
 use Rattle.script.proofs.Reading.{accepted-handed, accepted-end}
 use Rattle.script_commands.specs.Command.{bytesOfAll}
 use Rattle.script_commands.specs.Expansion.{expanded, commandsOf}
-use Rattle.script_commands.specs.Translation.{stepsTo, commandsTo, begins, Sent, StepsPut, withoutStep, ifRoom, translated, leftBy, ifAccepted, begun, numbersOf, translationTable, begunTable}
+use Rattle.script_commands.specs.Translation.{stepsTo, commandsTo, begins, ifRoom, translated, leftBy, ifAccepted, begun, ofTranslated, translatedTable, begunTable}
+use Rattle.script_commands.specs.Working.{withoutStep, StepsPut, Sent}
 use Rattle.script_commands.specs.declared.Translated.{Translated}
 use Rattle.script_commands.specs.declared.Translated.the-variants.{Commands, Refused}
 use Rattle.script_commands.proofs.Sending.{sent-append, sent-none}
@@ -42,7 +43,7 @@ sent-step f o j s is sent more room = rw (add-one, commands-next f j s is) (sent
 
 -- all of them written: they are counted
 pub steps-put : (f o : List ℕ) (m : ℕ) {o′ : List ℕ} {e : ℕ} → Sent o 0 (commandsTo f m) o′ e → StepsPut f m o o′ (Commands (e / 4))
-steps-put f o m {o′} {e} s = let k : e / 4 ≡ begins f m = omega (arith, s .next) in record { answer = ap Commands k; bytes = s .bytes }
+steps-put f o m {o′} {e} s = let k : e / 4 ≡ begins f m = omega arith in record { answer = ap Commands k; bytes = s .bytes }
 
 module _ (f o : List ℕ) (m : ℕ) (acc : checked f ≡ Accepted m) where
   pub too-little-room : length o / 32 < m → Refused Room ≡ translated f (length o)
@@ -83,21 +84,21 @@ translated-says f room k is = go (checked f) refl is
     go (NotAccepted why) acc h = absurd (let z : _≡_ {A = ℕ} 0 1 = cc in omega arith)
 
 -- the answer's number and value are those of the table
-pub translated-number : (f : List ℕ) (room : ℕ) → numbersOf (translated f room) ≡ translationTable f room
+pub translated-number : (f : List ℕ) (room : ℕ) → ofTranslated (translated f room) ≡ translatedTable f room
 unfolding translated
 translated-number f room = go (checked f) refl
   where
-    go : (r : Checked) → checked f ≡ r → numbersOf (ifRoom r f room) ≡ translationTable f room
+    go : (r : Checked) → checked f ≡ r → ofTranslated (ifRoom r f room) ≡ translatedTable f room
     go (Accepted m) acc =
         let l : Legal f m = answer-says f acc in
-        of-cond numbersOf (ltb room (32 * m)) (Refused Room) (Commands (begins f m))
+        of-cond ofTranslated (ltb room (32 * m)) (Refused Room) (Commands (begins f m))
         ∙ ap (λ (n : ℕ). cond (ltb room (32 * n)) (returned 9 0) (returned 0 (begins f n))) (sym (l .count)) ∙ sym (accepted-table f m acc _)
     go (NotAccepted why) acc = sym (refused-table f why acc _)
 
 -- what the contract of `translate` says, from the answer and the output
 pub translated-answered : (f o : List ℕ) {r : Translated} {o′ : List ℕ} → r ≡ translated f (length o) → o′ ≡ leftBy r f o
-    → (r ≡ translated f (length o)) × ((o′ ≡ leftBy r f o) × (numbersOf r ≡ translationTable f (length o)))
-translated-answered f o is left = (is, (left, ap numbersOf is ∙ translated-number f (length o)))
+    → (r ≡ translated f (length o)) × ((o′ ≡ leftBy r f o) × (ofTranslated r ≡ translatedTable f (length o)))
+translated-answered f o is left = (is, (left, ap ofTranslated is ∙ translated-number f (length o)))
 
 -- ---- where a step's commands begin
 -- the count ends where no step is handed out: past the last there are no more
@@ -111,21 +112,21 @@ count-ended f m acc j n k {x} {r} is none gave counted room = go (decLt j m)
         let past : m ≤ j = omega arith in
         gave ∙ ap (λ (y : Next). withoutStep y k) (is ∙ accepted-end f m acc j past) ∙ ap Commands (counted ∙ sym (begins-past f m acc j n past room))
 
-pub begun-number : (f : List ℕ) (n : ℕ) → numbersOf (begun f n) ≡ begunTable f n
+pub begun-number : (f : List ℕ) (n : ℕ) → ofTranslated (begun f n) ≡ begunTable f n
 unfolding begun
 begun-number f n = go (checked f) refl
   where
-    go : (r : Checked) → checked f ≡ r → numbersOf (ifAccepted r f n) ≡ begunTable f n
+    go : (r : Checked) → checked f ≡ r → ofTranslated (ifAccepted r f n) ≡ begunTable f n
     go (Accepted m) acc = sym (accepted-table f m acc _)
     go (NotAccepted why) acc = sym (refused-table f why acc _)
 
 -- what the contract of `step_commands` says, from the check's answer
 pub begun-counted : (f : List ℕ) (n m : ℕ) {r : Translated} → checked f ≡ Accepted m → r ≡ Commands (begins f n)
-    → (r ≡ begun f n) × (numbersOf r ≡ begunTable f n)
+    → (r ≡ begun f n) × (ofTranslated r ≡ begunTable f n)
 unfolding begun
-begun-counted f n m {r} acc gave = let e : r ≡ begun f n = rw acc gave in (e, ap numbersOf e ∙ begun-number f n)
+begun-counted f n m {r} acc gave = let e : r ≡ begun f n = rw acc gave in (e, ap ofTranslated e ∙ begun-number f n)
 
 pub begun-refused : (f : List ℕ) (n : ℕ) (why : Refusal) → checked f ≡ NotAccepted why
-    → (Refused why ≡ begun f n) × (numbersOf (Refused why) ≡ begunTable f n)
+    → (Refused why ≡ begun f n) × (ofTranslated (Refused why) ≡ begunTable f n)
 unfolding begun
-begun-refused f n why acc = let e : Refused why ≡ begun f n = rw acc refl in (e, ap numbersOf e ∙ begun-number f n)
+begun-refused f n why acc = let e : Refused why ≡ begun f n = rw acc refl in (e, ap ofTranslated e ∙ begun-number f n)

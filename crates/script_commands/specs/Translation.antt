@@ -1,9 +1,8 @@
 -- A whole script file translated into its commands: document 01, "Commands" and "Numbers returned", 8, 6, 7 or, by document 02, P2, 11,
 -- and 9 in that order.
 -- Where a step's commands begin is how many commands the steps before it have.
-use Prim.Native.Nat.{ℕ, zero, suc, _+_, _*_}
+use Prim.Native.Nat.{ℕ, zero, suc, _*_}
 use mathlib.Core.Bool.{cond}
-use mathlib.Core.Path.{_≡_}
 use mathlib.Core.List.{List, [], _∷_, _++_}
 use lib.Dec.{ltb}
 use lib.ListN.{length}
@@ -64,30 +63,14 @@ unfoldable pub begun : List ℕ → ℕ → Translated
 begun f n = ifAccepted (checked f) f n
 
 -- document 01's number and value for each answer
-abbrev pub numbersOf : Translated → Returned
-numbersOf (Commands k) = returned 0 k
-numbersOf (Refused r) = ofRefusal r
+abbrev pub ofTranslated : Translated → Returned
+ofTranslated (Commands k) = returned 0 k
+ofTranslated (Refused r) = ofRefusal r
 
 -- the table of numbers for a translation, in its order: 8, 6, 7 or 11, 9
-abbrev pub translationTable : List ℕ → ℕ → Returned
-translationTable f room = checksTable f (cond (ltb room (32 * stepCount f)) (returned 9 0) (returned 0 (begins f (stepCount f))))
+abbrev pub translatedTable : List ℕ → ℕ → Returned
+translatedTable f room = checksTable f (cond (ltb room (32 * stepCount f)) (returned 9 0) (returned 0 (begins f (stepCount f))))
 
 -- .. and for where a step's commands begin
 abbrev pub begunTable : List ℕ → ℕ → Returned
 begunTable f n = checksTable f (returned 0 (begins f n))
-
--- what is answered where the reader hands out no step, after k commands: its refusal, or at the end the commands so far
-abbrev pub withoutStep : Next → ℕ → Translated
-withoutStep (Found s) k = Commands k
-withoutStep (NoStep r) k = Refused r
-withoutStep End k = Commands k
-
--- the commands of the first m steps of a file stand in front of an output, and are counted
-pub record StepsPut (f : List ℕ) (m : ℕ) (before after : List ℕ) (r : Translated) : Type 0 where
-  pub answer : r ≡ Commands (begins f m)
-  pub bytes : after ≡ put before 0 (bytesOfAll (commandsTo f m))
-
--- the bytes of commands stand in an output from a place on, and end at another
-pub record Sent (before : List ℕ) (at : ℕ) (cs : List Command) (after : List ℕ) (end : ℕ) : Type 0 where
-  pub bytes : after ≡ put before at (bytesOfAll cs)
-  pub next : end ≡ at + 4 * length cs

@@ -7,7 +7,8 @@ ghost use lib.ListN.{length};
 ghost use Rattle.script.specs.File.{checked};
 ghost use Rattle.script_commands.specs.Command.{bytesOf, commandOf};
 ghost use Rattle.script_commands.specs.Expansion.{ways as waysOf, turned, setBy, fieldBy, expanded};
-ghost use Rattle.script_commands.specs.Translation.{Sent, withoutStep, StepsPut, begins, translated, leftBy, begun, numbersOf, translationTable, begunTable};
+ghost use Rattle.script_commands.specs.Translation.{begins, translated, leftBy, begun, ofTranslated, translatedTable, begunTable};
+ghost use Rattle.script_commands.specs.Working.{withoutStep, StepsPut, Sent};
 use script::Checked;
 use script::Next;
 use script::Refusal;
@@ -253,7 +254,10 @@ fn without_step(next: Next, k: usize) -> Translated
     }
 }
 
-// The commands of the steps of an accepted file; how many there are. A refusal goes straight out.
+// The commands of the steps of an accepted file; how many there are. The steps come from document 01's reader that stands over
+// the caller's bytes, and its answer is taken apart by let .. else; a refusal goes straight out. So each step is judged again,
+// after `check_file`: the reader's contract is for every file, accepted or not, and a reader that took six bytes for a step
+// unjudged would answer by a second definition.
 fn put_steps(file: &[u8], m: usize, out: &mut [u8]) -> Translated
     requires { ⌜ (checked (now file) ≡ Checked.Accepted m) × (32 * m ≤ length (now out)) ⌝ }
     ensures { λ r. ⌜ StepsPut (now (file .entry)) m (now (out .entry)) (now (out .exit)) r ⌝ }
@@ -275,7 +279,7 @@ fn put_steps(file: &[u8], m: usize, out: &mut [u8]) -> Translated
 pub fn translate(file: &[u8], out: &mut [u8]) -> Translated
     ensures { λ r. ⌜ r ≡ translated (now (file .entry)) (length (now (out .entry))) ⌝ }
     ensures { λ r. ⌜ now (out .exit) ≡ leftBy r (now (file .entry)) (now (out .entry)) ⌝ }
-    ensures { λ r. ⌜ numbersOf r ≡ translationTable (now (file .entry)) (length (now (out .entry))) ⌝ }
+    ensures { λ r. ⌜ ofTranslated r ≡ translatedTable (now (file .entry)) (length (now (out .entry))) ⌝ }
 {
     match check_file(file) {
         Checked::Refused(r) => Translated::Refused(r),
@@ -339,7 +343,7 @@ fn command_count(s: Step) -> usize
     }
 }
 
-// How many commands the first n steps of an accepted file have.
+// How many commands the first n steps of an accepted file have, read in the same way.
 fn count_steps(file: &[u8], n: usize) -> Translated
     requires { ⌜ ((m : ℕ) × (checked (now file) ≡ Checked.Accepted m)) ⌝ }
     ensures { λ r. ⌜ r ≡ Translated.Commands (begins (now (file .entry)) n) ⌝ }
@@ -361,7 +365,7 @@ fn count_steps(file: &[u8], n: usize) -> Translated
 // the last step that is all there are.
 pub fn step_commands(file: &[u8], n: usize) -> Translated
     ensures { λ r. ⌜ r ≡ begun (now (file .entry)) n ⌝ }
-    ensures { λ r. ⌜ numbersOf r ≡ begunTable (now (file .entry)) n ⌝ }
+    ensures { λ r. ⌜ ofTranslated r ≡ begunTable (now (file .entry)) n ⌝ }
 {
     match check_file(file) {
         Checked::Refused(r) => Translated::Refused(r),

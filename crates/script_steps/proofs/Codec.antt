@@ -10,7 +10,7 @@ use borrow.Author.Tests.{eqb-true, ne-eqb}
 use lib.Dec.{eqb}
 use lib.ListN.{length, getD, take, drop, length-take, length-drop}
 use Rattle.lists.proofs.Tests.{and-both, of-cond}
-use Rattle.script_steps.specs.Step.{judged, bytesOf, shaped, ifShaped, stepOf, readAt, readNumber, shapeTable, bytesTable}
+use Rattle.script_steps.specs.Step.{judged, bytesOf, shaped, ifShaped, stepOf, readAt, stepReadNumber, shapeTable, bytesTable}
 use Rattle.script_steps.specs.declared.Step.{Step}
 use Rattle.script_steps.specs.declared.Step.the-variants.{Set, Field, Colour}
 use Rattle.script_steps.specs.declared.Fault.the-variants.{Unallowed}
@@ -87,20 +87,20 @@ written-read (a ∷ b ∷ c ∷ d ∷ x ∷ f ∷ y ∷ l) s e = absurd (
     omega arith)
 
 -- ---- the number of what was read: 7 for bytes that are no step, else that of the step
-shaped-number : (r : StepRead) → readNumber (ifShaped r) ≡ shapeTable r
+shaped-number : (r : StepRead) → stepReadNumber (ifShaped r) ≡ shapeTable r
 shaped-number (Good s) = judged-number s
 shaped-number (Refused why) = refl
 
-pub read-number : (l : List ℕ) → readNumber (stepOf l) ≡ bytesTable l
+pub read-number : (l : List ℕ) → stepReadNumber (stepOf l) ≡ bytesTable l
 unfolding stepOf bytesTable
 read-number l =
-    of-cond readNumber (eqb (length l) 6) _ _
+    of-cond stepReadNumber (eqb (length l) 6) _ _
     ∙ ap (λ (n : ℕ). cond (eqb (length l) 6) n 7)
     (shaped-number (shaped (getD l 0 0) (getD l 1 0) (getD l 2 0) (getD l 3 0) (getD l 4 0) (getD l 5 0)))
 
 -- what the contracts of `of_bytes` and `read_at` say, from the one equation
-pub read-answered : (l : List ℕ) {r : StepRead} → r ≡ stepOf l → (r ≡ stepOf l) × (readNumber r ≡ bytesTable l)
-read-answered l e = (e, ap readNumber e ∙ read-number l)
+pub read-answered : (l : List ℕ) {r : StepRead} → r ≡ stepOf l → (r ≡ stepOf l) × (stepReadNumber r ≡ bytesTable l)
+read-answered l e = (e, ap stepReadNumber e ∙ read-number l)
 
 -- ---- fewer than six bytes are no step
 pub read-short : (l : List ℕ) (p : ℕ) → length l < p + 6 → readAt l p ≡ Refused Unallowed

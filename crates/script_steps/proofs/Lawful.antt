@@ -20,7 +20,7 @@ use Rattle.chip_registers.specs.Groups.{groupAt, isIndexed, rowOf}
 use Rattle.chip_registers.specs.Indexes.{fits}
 use Rattle.chip_registers.proofs.IndexLaws.{misfit-unlisted}
 use Rattle.chip_registers.specs.declared.Row.the-variants.{Listed, Unlisted}
-use Rattle.script_steps.specs.Step.{names, within, legal, unwritable, idle, judged, readNumber, stepTable}
+use Rattle.script_steps.specs.Step.{names, within, legal, unwritable, idle, judged, stepReadNumber, stepTable}
 use Rattle.script_steps.specs.declared.Fault.the-variants.{Unallowed, Idle}
 use Rattle.script_steps.specs.declared.Step.{Step}
 use Rattle.script_steps.specs.declared.Step.the-variants.{Set, Field, Colour}
@@ -161,13 +161,13 @@ module _ (s : Step) where
   passes-good p = rw (p .lawful, p .useful)
 
   -- its number: 7, then 11, else 0
-  pub judged-number : readNumber (judged s) ≡ stepTable s
+  pub judged-number : stepReadNumber (judged s) ≡ stepTable s
   unfolding judged
-  judged-number = of-cond readNumber (legal s) _ _ ∙ ap (λ (n : ℕ). cond (legal s) n 7) (of-cond readNumber (idle s) (Refused Idle) (Good s))
+  judged-number = of-cond stepReadNumber (legal s) _ _ ∙ ap (λ (n : ℕ). cond (legal s) n 7) (of-cond stepReadNumber (idle s) (Refused Idle) (Good s))
 
   -- what the contract of `judge` says, from the one equation
-  pub judge-answered : {r : StepRead} → r ≡ judged s → (r ≡ judged s) × (readNumber r ≡ stepTable s)
-  judge-answered e = (e, ap readNumber e ∙ judged-number)
+  pub judge-answered : {r : StepRead} → r ≡ judged s → (r ≡ judged s) × (stepReadNumber r ≡ stepTable s)
+  judge-answered e = (e, ap stepReadNumber e ∙ judged-number)
 
 -- .. and a step that is found good is the step, and passes
 pub good-passes : (q s : Step) → judged q ≡ Good s → (q ≡ s) × Passes s

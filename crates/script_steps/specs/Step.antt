@@ -87,9 +87,9 @@ faultNumber Unallowed = 7
 faultNumber Idle = 11
 
 -- the number of what was read: that of its fault, or done
-abbrev pub readNumber : StepRead → ℕ
-readNumber (Good s) = 0
-readNumber (Refused why) = faultNumber why
+abbrev pub stepReadNumber : StepRead → ℕ
+stepReadNumber (Good s) = 0
+stepReadNumber (Refused why) = faultNumber why
 
 -- .. and with it the value for what is read as step j: the step number, or where the answer is the step no value
 abbrev pub ofStepRead : ℕ → StepRead → Returned

@@ -6,7 +6,7 @@
 ghost use mathlib.Core.Path.{_≡_};
 ghost use mathlib.Core.List.{[], _∷_};
 ghost use lib.ListN.{take, drop};
-ghost use Rattle.script_steps.specs.Step.{names, legal, unwritable, idle, judged, shaped, stepOf, readAt, bytesOf, faultNumber, readNumber, stepTable, bytesTable};
+ghost use Rattle.script_steps.specs.Step.{names, legal, unwritable, idle, judged, shaped, stepOf, readAt, bytesOf, faultNumber, stepReadNumber, stepTable, bytesTable};
 use chip_masks::writable;
 use chip_registers::group_at;
 use chip_registers::index_fits;
@@ -125,7 +125,7 @@ fn is_idle(step: Step) -> bool
 // What a step comes to: it passes, or why it is refused.
 pub fn judge(step: Step) -> StepRead
     ensures { λ r. ⌜ r ≡ judged step ⌝ }
-    ensures { λ r. ⌜ readNumber r ≡ stepTable step ⌝ }
+    ensures { λ r. ⌜ stepReadNumber r ≡ stepTable step ⌝ }
 {
     if !is_legal(step) {
         return StepRead::Refused(Fault::Unallowed);
@@ -169,7 +169,7 @@ fn shape(a: u8, b: u8, c: u8, d: u8, e: u8, f: u8) -> StepRead
 // Six bytes read as a step, or refused.
 pub fn of_bytes(a: u8, b: u8, c: u8, d: u8, e: u8, f: u8) -> StepRead
     ensures { λ r. ⌜ r ≡ stepOf (a ∷ b ∷ c ∷ d ∷ e ∷ f ∷ []) ⌝ }
-    ensures { λ r. ⌜ readNumber r ≡ bytesTable (a ∷ b ∷ c ∷ d ∷ e ∷ f ∷ []) ⌝ }
+    ensures { λ r. ⌜ stepReadNumber r ≡ bytesTable (a ∷ b ∷ c ∷ d ∷ e ∷ f ∷ []) ⌝ }
 {
     let StepRead::Good(step) = shape(a, b, c, d, e, f) else {
         return StepRead::Refused(Fault::Unallowed);
@@ -180,7 +180,7 @@ pub fn of_bytes(a: u8, b: u8, c: u8, d: u8, e: u8, f: u8) -> StepRead
 // The step at a place of a list of bytes. Fewer than six bytes are no step.
 pub fn read_at(list: &[u8], place: usize) -> StepRead
     ensures { λ r. ⌜ r ≡ readAt (now (list .entry)) place ⌝ }
-    ensures { λ r. ⌜ readNumber r ≡ bytesTable (take 6 (drop place (now (list .entry)))) ⌝ }
+    ensures { λ r. ⌜ stepReadNumber r ≡ bytesTable (take 6 (drop place (now (list .entry)))) ⌝ }
 {
     if list.len() < 6 {
         return StepRead::Refused(Fault::Unallowed);

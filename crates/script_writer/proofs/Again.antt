@@ -50,10 +50,10 @@ module _ (f : List ℕ) (m : ℕ) (bytes : Bytes f) (acc : Legal f m) where
   file = units 512 12 (length f) (acc .whole)
 
   length-steps : length S ≡ 6 * m
-  length-steps = tab-length (λ p. getD f (stepPlace InBlocks (p / 6) + p % 6) 0) 0 (6 * m)
+  length-steps = tab-length (λ p. getD f (stepPlace InBlocks (p / 6) + p % 6) 0) (6 * m)
 
   length-there : (k : ℕ) → k < M → length (block f k) ≡ 512
-  length-there k h = simp (length-take, length-drop) (omega (arith, file))
+  length-there k h = simp (length-take, length-drop) (omega arith)
 
   byte-there : (k r : ℕ) → r < 512 → getD (block f k) r 0 ≡ getD f (512 * k + r) 0
   byte-there k r h = getD-part f (512 * k) 512 r h
@@ -87,7 +87,7 @@ module _ (f : List ℕ) (m : ℕ) (bytes : Bytes f) (acc : Legal f m) where
   count-again k h = go (length S) length-steps (here k h) (decLt m (84 * k + 84))
     where
       go : (n : ℕ) → n ≡ 6 * m → Here k → Dec (m < 84 * k + 84) → min 84 ((n - 504 * k) / 6) ≡ getD (block f k) 2 0
-      go n l g (yes p) = omega (arith, g .few, g .rest p)
+      go n l g (yes p) = omega (arith, g .rest p)
       go n l g (no p) = omega (arith, g .full (omega arith))
 
   -- the header of block k
@@ -100,13 +100,13 @@ module _ (f : List ℕ) (m : ℕ) (bytes : Bytes f) (acc : Legal f m) where
       let bx = byte-there k 0 (omega arith) in
       let by = byte-there k 1 (omega arith) in
       six (λ i. getD (front S k M) i 0 ≡ getD (block f k) i 0)
-      (omega (arith, o .number)) (omega (arith, o .number)) (count-again k h) (sym (o .mark)) (sym (o .four)) (sym (o .five))
+      (omega arith) (omega arith) (count-again k h) (sym (o .mark)) (sym (o .four)) (sym (o .five))
 
   -- its places
   step-byte : (k i : ℕ) → 6 ≤ i → i < 510 → 504 * k + (i - 6) < 6 * m → getD S (504 * k + (i - 6)) 0 ≡ getD f (512 * k + i) 0
   step-byte k i h₀ h₁ p =
-      let e : stepPlace InBlocks ((0 + (504 * k + (i - 6))) / 6) + (0 + (504 * k + (i - 6))) % 6 ≡ 512 * k + i = omega arith in
-      tab-at (λ p. getD f (stepPlace InBlocks (p / 6) + p % 6) 0) 0 (6 * m) (504 * k + (i - 6)) p
+      let e : stepPlace InBlocks ((504 * k + (i - 6)) / 6) + (504 * k + (i - 6)) % 6 ≡ 512 * k + i = omega arith in
+      tab-at (λ p. getD f (stepPlace InBlocks (p / 6) + p % 6) 0) (6 * m) (504 * k + (i - 6)) 0 p
       ∙ ap (λ (j : ℕ). getD f j 0) e
 
   places-again : (k : ℕ) → k < M → (i : ℕ) → 6 ≤ i → i < 510 → getD (front S k M) i 0 ≡ getD (block f k) i 0

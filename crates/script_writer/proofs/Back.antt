@@ -168,7 +168,7 @@ module _ (s : List ℕ) (w : wholeSteps s ≡ true) where
       size = simp (length-take, length-drop) (omega (arith, file-length, step-inside j h))
 
       same : length (take 6 (drop (stepPlace InBlocks j) (fileOf s))) ≡ length (take 6 (drop (6 * j) s))
-      same = size ∙ simp (length-take, length-drop) (omega (arith, list))
+      same = size ∙ simp (length-take, length-drop) (omega arith)
 
       at : (q : ℕ) → q < length (take 6 (drop (stepPlace InBlocks j) (fileOf s)))
           → getD (take 6 (drop (stepPlace InBlocks j) (fileOf s))) q 0 ≡ getD (take 6 (drop (6 * j) s)) q 0
@@ -183,15 +183,13 @@ module _ (s : List ℕ) (w : wholeSteps s ≡ true) where
 
   -- the steps of the file, one after another, are the list
   pub steps-back : stepsOf (fileOf s) m ≡ s
-  steps-back = ext-getD 0 _ _ (tab-length _ 0 (6 * m) ∙ omega (arith, list)) at
+  steps-back = ext-getD 0 _ _ (tab-length _ (6 * m) ∙ omega (arith, list)) at
     where
       at : (p : ℕ) → p < length (stepsOf (fileOf s) m) → getD (stepsOf (fileOf s) m) p 0 ≡ getD s p 0
       at p hp =
-          let l = tab-length (λ p. getD (fileOf s) (stepPlace InBlocks (p / 6) + p % 6) 0) 0 (6 * m) in
+          let l = tab-length (λ p. getD (fileOf s) (stepPlace InBlocks (p / 6) + p % 6) 0) (6 * m) in
           let e : 6 * (p / 6) + p % 6 ≡ p = omega arith in
-          let z : 0 + p ≡ p = omega arith in
-          tab-at (λ p. getD (fileOf s) (stepPlace InBlocks (p / 6) + p % 6) 0) 0 (6 * m) p (omega arith)
-          ∙ ap (λ (p : ℕ). getD (fileOf s) (stepPlace InBlocks (p / 6) + p % 6) 0) z
+          tab-at (λ p. getD (fileOf s) (stepPlace InBlocks (p / 6) + p % 6) 0) (6 * m) p 0 (omega arith)
           ∙ step-byte (p / 6) (omega arith) (p % 6) (omega arith)
           ∙ ap (λ (i : ℕ). getD s i 0) e
 

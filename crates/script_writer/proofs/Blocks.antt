@@ -17,10 +17,10 @@ use Rattle.script_writer.specs.Write.{header, places, front, blockOf, bl
 
 -- ---- a front
 pub length-places : (s : List ℕ) (k : ℕ) → length (places s k) ≡ 504
-length-places s k = tab-length (λ p. getD s p 0) (504 * k) 504
+length-places s k = tab-length (λ p. getD s (504 * k + p) 0) 504
 
 pub places-at : (s : List ℕ) (k i : ℕ) → i < 504 → getD (places s k) i 0 ≡ getD s (504 * k + i) 0
-places-at s k i h = tab-at (λ p. getD s p 0) (504 * k) 504 i h
+places-at s k i h = tab-at (λ p. getD s (504 * k + p) 0) 504 i 0 h
 
 pub length-front : (s : List ℕ) (k n : ℕ) → length (front s k n) ≡ 510
 unfolding front

@@ -19,20 +19,20 @@ use Rattle.script.specs.declared.Refusal.the-variants.{Length, Block, Step, Roo
 use Rattle.script.specs.declared.Checked.{Checked}
 use Rattle.script.specs.declared.Checked.the-variants.{Accepted, Refused as NotAccepted}
 use Rattle.script.proofs.StepLaws.{BadAt, StepsSay, steps-say, say-steps, steps-number}
-use Rattle.script_writer.specs.Write.{wholeSteps, blocksFor, ifRoom, written, ofWritten, listTable}
+use Rattle.script_writer.specs.Write.{wholeSteps, blocksFor, ifRoom, written, ofWritten, writtenTable}
 use Rattle.script_writer.specs.declared.Written.{Written}
 use Rattle.script_writer.specs.declared.Written.the-variants.{Blocks, Refused}
 
 -- ---- number and value: the table is what the answer says
-pub written-number : (s : List ℕ) (room : ℕ) → ofWritten (written s room) ≡ listTable s room
+pub written-number : (s : List ℕ) (room : ℕ) → ofWritten (written s room) ≡ writtenTable s room
 unfolding written
 written-number s room =
-    of-cond ofWritten (not (wholeSteps s)) (Refused Length) (ifRoom (stepsChecked Plain s (length s / 6)) s room)
+    of-cond ofWritten (not (wholeSteps s)) (Refused Length) (ifRoom (stepsChecked Plain s 0 (length s / 6)) s room)
     ∙ ap (λ (x : Returned). cond (not (wholeSteps s)) (returned 8 0) x)
     (steps-number (λ c. ofWritten (ifRoom c s room)) (λ r. refl) Plain s (length s / 6)
     ∙ simp (of-cond ofWritten))
 
-pub answered : (s : List ℕ) (room : ℕ) {r : Written} → written s room ≡ r → (r ≡ written s room) × (ofWritten r ≡ listTable s room)
+pub answered : (s : List ℕ) (room : ℕ) {r : Written} → written s room ≡ r → (r ≡ written s room) × (ofWritten r ≡ writtenTable s room)
 answered s room e = (sym e, ap ofWritten (sym e) ∙ written-number s room)
 
 -- ---- the answer, case by case in its order
@@ -42,11 +42,11 @@ module _ (s : List ℕ) (room : ℕ) where
   write-length w = rw w
 
   module _ (w : wholeSteps s ≡ true) where
-    pub write-step : (r : Refusal) → stepsChecked Plain s (length s / 6) ≡ NotAccepted r → written s room ≡ Refused r
+    pub write-step : (r : Refusal) → stepsChecked Plain s 0 (length s / 6) ≡ NotAccepted r → written s room ≡ Refused r
     unfolding written
     write-step r e = rw (w, e)
 
-    module _ (m : ℕ) (e : stepsChecked Plain s (length s / 6) ≡ Accepted m) where
+    module _ (m : ℕ) (e : stepsChecked Plain s 0 (length s / 6) ≡ Accepted m) where
       pub write-room : room < 512 * blocksFor s → written s room ≡ Refused Room
       unfolding written
       write-room g = rw (w, e, lt-ltb _ _ g)
@@ -78,10 +78,10 @@ Says s room (Refused (Block k)) = ⊥
 
 -- it says what is so
 pub written-says : (s : List ℕ) (room : ℕ) → Says s room (written s room)
-written-says s room = go (wholeSteps s) refl (ltb room (512 * blocksFor s)) refl (stepsChecked Plain s (length s / 6)) refl (steps-say Plain s (length s / 6))
+written-says s room = go (wholeSteps s) refl (ltb room (512 * blocksFor s)) refl (stepsChecked Plain s 0 (length s / 6)) refl (steps-say Plain s (length s / 6))
   where
     go : (a : Bool) → wholeSteps s ≡ a → (b : Bool) → ltb room (512 * blocksFor s) ≡ b
-        → (c : Checked) → stepsChecked Plain s (length s / 6) ≡ c → StepsSay Plain s (length s / 6) c → Says s room (written s room)
+        → (c : Checked) → stepsChecked Plain s 0 (length s / 6) ≡ c → StepsSay Plain s (length s / 6) c → Says s room (written s room)
     go false ea b eb c ec says = rw (write-length s room ea) ea
     go true ea b eb (NotAccepted (Step j why)) ec bad = rw (write-step s room ea (Step j why) ec) (record { whole = ea; bad = bad })
     go true ea b eb (NotAccepted Length) ec bad = absurd bad
@@ -95,13 +95,13 @@ written-says s room = go (wholeSteps s) refl (ltb room (512 * blocksFor s)) refl
         rw (write-done s room ea m ec h) (record { legal = record { whole = ea; steps-legal = good .none }; many = refl; fits = h })
 
 -- and what is so decides it
-legal-steps : (s : List ℕ) → Legal s → stepsChecked Plain s (length s / 6) ≡ Accepted (length s / 6)
+legal-steps : (s : List ℕ) → Legal s → stepsChecked Plain s 0 (length s / 6) ≡ Accepted (length s / 6)
 legal-steps s l = say-steps Plain s (length s / 6) (Accepted (length s / 6)) (record { count = refl; none = l .steps-legal })
 
 pub says-written : (s : List ℕ) (room : ℕ) (r : Written) → Says s room r → written s room ≡ r
 says-written s room (Blocks n) d =
     let l = d .legal in
-    write-done s room (l .whole) (length s / 6) (legal-steps s l) (omega (arith, d .many, d .fits)) ∙ ap Blocks (d .many)
+    write-done s room (l .whole) (length s / 6) (legal-steps s l) (omega arith) ∙ ap Blocks (d .many)
 says-written s room (Refused Length) w = write-length s room w
 says-written s room (Refused (Step j why)) b =
     write-step s room (b .whole) (Step j why) (say-steps Plain s (length s / 6) (NotAccepted (Step j why)) (b .bad))

@@ -37,7 +37,7 @@ abbrev pub header : List ℕ → ℕ → ℕ → List ℕ
 header s k n = k % 256 ∷ k / 256 ∷ stepsHere s k ∷ lastMark (eqb (k + 1) n) ∷ 0 ∷ 0 ∷ []
 
 abbrev pub places : List ℕ → ℕ → List ℕ
-places s k = tab (λ p. getD s p 0) (504 * k) 504
+places s k = tab (λ p. getD s (504 * k + p) 0) 504
 
 unfoldable pub front : List ℕ → ℕ → ℕ → List ℕ
 front s k n = header s k n ++ places s k
@@ -60,7 +60,7 @@ ifRoom (NotAccepted r) s room = Refused r
 
 -- 8, then 7 or 11, then 9; else the number of blocks
 unfoldable pub written : List ℕ → ℕ → Written
-written s room = cond (not (wholeSteps s)) (Refused Length) (ifRoom (stepsChecked Plain s (length s / 6)) s room)
+written s room = cond (not (wholeSteps s)) (Refused Length) (ifRoom (stepsChecked Plain s 0 (length s / 6)) s room)
 
 -- what the lent output then holds: a refusal changes no byte
 abbrev pub leftBy : Written → List ℕ → List ℕ → List ℕ
@@ -72,8 +72,8 @@ abbrev pub ofWritten : Written → Returned
 ofWritten (Blocks n) = returned 0 n
 ofWritten (Refused r) = ofRefusal r
 
-abbrev pub listTable : List ℕ → ℕ → Returned
-listTable s room =
+abbrev pub writtenTable : List ℕ → ℕ → Returned
+writtenTable s room =
     cond (not (wholeSteps s)) (returned 8 0)
     (stepsTable Plain s (length s / 6)
     (cond (ltb room (512 * blocksFor s)) (returned 9 0)
@@ -81,4 +81,4 @@ listTable s room =
 
 -- the first m steps of a file, one after another: byte p of them is byte p % 6 of step p / 6
 abbrev pub stepsOf : List ℕ → ℕ → List ℕ
-stepsOf f m = tab (λ p. getD f (stepPlace InBlocks (p / 6) + p % 6) 0) 0 (6 * m)
+stepsOf f m = tab (λ p. getD f (stepPlace InBlocks (p / 6) + p % 6) 0) (6 * m)

@@ -7,7 +7,7 @@ ghost use mathlib.Core.Path.{_≡_};
 ghost use Prim.Native.Nat.{_+_, _*_, _<_, _≤_};
 ghost use lib.ListN.{length};
 ghost use Rattle.lists.specs.Put.{put};
-ghost use Rattle.script_writer.specs.Write.{stepsHere, header, places, blockOf, blocksTo, written, leftBy, ofWritten, listTable};
+ghost use Rattle.script_writer.specs.Write.{stepsHere, header, places, blockOf, blocksTo, written, leftBy, ofWritten, writtenTable};
 use lists::byte_at;
 use lists::is_whole;
 use script::Checked;
@@ -91,7 +91,7 @@ fn put_blocks(list: &[u8], n: usize, out: &mut [u8])
 // A list of steps written as a file: 8, then 7 or 11, then 9; else the number of blocks.
 pub fn write(list: &[u8], out: &mut [u8]) -> Written
     ensures { λ r. ⌜ r ≡ written (now (list .entry)) (length (now (out .entry))) ⌝ }
-    ensures { λ r. ⌜ ofWritten r ≡ listTable (now (list .entry)) (length (now (out .entry))) ⌝ }
+    ensures { λ r. ⌜ ofWritten r ≡ writtenTable (now (list .entry)) (length (now (out .entry))) ⌝ }
     ensures { λ r. ⌜ now (out .exit) ≡ leftBy r (now (list .entry)) (now (out .entry)) ⌝ }
 {
     if !is_whole(list.len(), 6, 1008) {

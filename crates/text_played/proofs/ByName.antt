@@ -10,7 +10,8 @@ use Rattle.lists.specs.Bits.{isSet}
 use Rattle.lists.specs.Put.{put}
 use Rattle.chip.specs.State.{Named, named}
 use Rattle.chip.specs.Names.{portsOpen}
-use Rattle.chip.specs.Reset.{resetByte, filled, reset}
+use Rattle.lists.specs.Tab.{tab}
+use Rattle.chip.specs.Reset.{resetByte, reset}
 use Rattle.script.specs.File.{stepCount}
 use Rattle.script.specs.declared.Refusal.{Refusal}
 use Rattle.script.specs.declared.Refusal.the-variants.{Room}
@@ -24,7 +25,7 @@ use Rattle.text_played.specs.Told.{fresh, tale, toldOf, told, leftOf, le
 use Rattle.text_played.specs.declared.Told.the-variants.{Text, Refused}
 
 fresh-open : portsOpen (named fresh) ≡ true
-unfolding portsOpen reset filled resetByte
+unfolding portsOpen reset tab resetByte
 fresh-open = refl
 
 module _ (file : List ℕ) (work room : ℕ) where

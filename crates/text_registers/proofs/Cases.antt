@@ -5,7 +5,8 @@ use Rattle.chip_registers.specs.Groups.{rowOf}
 use Rattle.chip_registers.specs.Sequencer.{SR}
 use Rattle.chip_registers.specs.declared.Group.the-variants.{Sr, Palmask}
 use Rattle.chip.specs.State.{named}
-use Rattle.chip.specs.Reset.{resetByte, filled, reset}
+use Rattle.lists.specs.Tab.{tab}
+use Rattle.chip.specs.Reset.{resetByte, reset}
 use Rattle.text_registers.specs.Line.{joined, line, lineOfOne}
 use Rattle.text_registers.specs.Text.{anyListed, lineAt, paragraph}
 
@@ -17,7 +18,7 @@ pub SR-after-reset : paragraph Sr (named (reset 0xFF 0xFF))
     ++ (0x20 ∷ 0x2D ∷ 0x2D ∷ 0x20 ∷ 0x2D ∷ 0x2D ∷ 0x20 ∷ 0x2D ∷ 0x2D ∷ 0x20 ∷ 0x2D ∷ 0x2D ∷ [])
     ++ (0x20 ∷ 0x2D ∷ 0x2D ∷ 0x20 ∷ 0x2D ∷ 0x2D ∷ 0x20 ∷ 0x2D ∷ 0x2D ∷ 0x20 ∷ 0x2D ∷ 0x2D ∷ [])
     ++ (0x0A ∷ 0x0A ∷ [])
-unfolding paragraph joined lineAt anyListed line rowOf SR reset filled resetByte
+unfolding paragraph joined lineAt anyListed line rowOf SR reset tab resetByte
 SR-after-reset = refl
 
 -- `PALMASK 00`

@@ -130,7 +130,7 @@ module _ (f : List ℕ) (m : ℕ) (bytes : Bytes f) (acc : checked f ≡ Accepte
     six : take 6 (drop (6 * j) S) ≡ bytesOf step
 
   size : length S ≡ 6 * m
-  size = tab-length (λ p. getD f (stepPlace InFile (p / 6) + p % 6) 0) 0 (6 * m)
+  size = tab-length (λ p. getD f (stepPlace InFile (p / 6) + p % 6) 0) (6 * m)
 
   there : (j : ℕ) → j < m → There j
   there j h =

@@ -16,7 +16,7 @@ use Rattle.text_steps.specs.Reading.{lineOf}
 use Rattle.text_steps.specs.declared.Line.{Line}
 use Rattle.text_steps.specs.declared.Line.the-variants.{Pass, Is, Other}
 use Rattle.script.specs.Numbers.{ofRefusal}
-use Rattle.script_writer.specs.Write.{fileOf, written, listTable}
+use Rattle.script_writer.specs.Write.{fileOf, written, writtenTable}
 use Rattle.script_writer.specs.declared.Written.{Written}
 use Rattle.script_writer.specs.declared.Written.the-variants.{Blocks as InBlocks, Refused as NotWritten}
 use Rattle.text_to_script.specs.Lines.{linesOf}
@@ -95,7 +95,7 @@ lineTable Other size k rest = returned 0 k
 
 -- .. and for a text: its lines in order, then the writer's
 unfoldable pub linesTable : ℕ → List ℕ → List (List ℕ) → ℕ → Returned
-linesTable k steps [] room = listTable steps room
+linesTable k steps [] room = writtenTable steps room
 linesTable k steps (l ∷ ls) room = lineTable (lineOf l) (length steps) k (linesTable (k + 1) (withLine (lineOf l) steps) ls room)
 
 abbrev pub composedTable : List ℕ → ℕ → Returned

@@ -9,6 +9,7 @@ unfolding groupAt
 group-at-spec =
     tie.close
     (tie.spec
+    -- CR, SR, GR, XR, FR, MR, MSR, PALMASK, AR
     (λ c. rw (c .match .keys1))
     (λ c. rw (c .match .keys2))
     (λ c. rw (c .match .keys3))

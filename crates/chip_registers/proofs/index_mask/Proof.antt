@@ -16,6 +16,7 @@ index-mask-spec =
     (λ c. search needs)
     (λ c. search needs)
     (λ c. search needs)
+    -- CR, SR, GR, XR, FR, MR, MSR, PALMASK, AR
     (λ c. rw (c .enum-told .given .1))
     (λ c. rw (c .enum-told2 .given .1))
     (λ c. rw (c .enum-told3 .given .1))

@@ -20,6 +20,7 @@ left-open-spec =
     (λ c. search needs)
     (λ c. search needs)
     (λ c κs. search needs)
+    -- CR, SR, GR, XR, FR, MR, MSR, PALMASK, AR
     (λ c. rw (c .before .enum-told .given .1) (c .left-open-cr .ensures))
     (λ c. rw (c .enum-told2 .given .1))
     (λ c. rw (c .enum-told3 .given .1))

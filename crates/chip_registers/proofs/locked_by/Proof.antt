@@ -18,6 +18,7 @@ locked-by-spec =
     (λ c. search needs)
     (λ c. search needs)
     (λ c. search needs)
+    -- CR, SR, GR, XR, FR, MR, MSR, PALMASK, AR
     (λ c. rw (c .enum-told .given .1))
     (λ c. rw (c .enum-told2 .given .1))
     (λ c. rw (c .enum-told3 .given .1))

@@ -25,6 +25,7 @@ row-of-spec =
     (λ c. search needs)
     (λ c. search needs)
     (λ c κs. search needs)
+    -- CR, SR, GR, XR, FR, MR, MSR, PALMASK, AR
     (λ c. rw (c .before .enum-told .given .1) (c .cr .ensures))
     (λ c. rw (c .before .enum-told2 .given .1) (c .sr .ensures))
     (λ c. rw (c .before .enum-told3 .given .1) (c .gr .ensures))

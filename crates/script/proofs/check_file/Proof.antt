@@ -34,7 +34,7 @@ returns-3 c =
     let e = b .before .before in
     let f = now (e .before .before .before .args .file) in
     answered f (check-all f (whole e) _ (b .before .first-bad-block .ensures) (b .if2 .left)
-    ∙ sym (c .check-steps .ensures .0 ∙ ap (stepsChecked Blocks f) (c .before .step-count .ensures)))
+    ∙ sym (c .check-steps .ensures .0 ∙ ap (stepsChecked Blocks f 0) (c .before .step-count .ensures)))
 
 pub check-file-spec : {M : Type 1} → statement M
 check-file-spec =

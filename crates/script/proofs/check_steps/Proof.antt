@@ -1,45 +1,60 @@
--- `check_steps` meets its contract: none of the steps is bad, or the first that is goes out with what is wrong with it.
-use mathlib.Core.Path.{sym, _∙_}
+-- `check_steps` meets its contract. The loop's invariant: the answer from here on is the whole answer.
+use mathlib.Core.Path.{_≡_, sym, _∙_}
+use Prim.Native.Nat.{_-_, _≤_}
+use native.Mathlib.Nat.{sub-zero}
+use native.Mathlib.Omega.{arith}
 use borrow.Author.Needs.{needs}
 use denote.Ref.{now}
-use borrow.Author.Tests.{lt-ltb, le-ltb}
 use Rattle.script.specs.File.{stepsChecked}
-use Rattle.script.proofs.StepLaws.{steps-answered}
+use Rattle.script.proofs.StepLaws.{steps-more, steps-stop, steps-end, steps-answered}
 use Rattle.script.proofs.check_steps.Statement.{statement}
 use Rattle.script.proofs.check_steps.Tie as tie
 
--- all of them pass
-returns : tie.Need-returns
-unfolding stepsChecked
+abbrev Inv-loop : tie.InvT-loop
+Inv-loop f layout m j₀ j = (stepsChecked layout f 0 m ≡ stepsChecked layout f j (m - j)) × (j ≤ m)
+
+abbrev μ-loop : tie.MeasureT-loop
+μ-loop f layout m j₀ j = m - j
+
+-- a step that does not pass
+returns : tie.Need-returns Inv-loop μ-loop
 returns c =
-    let a = c .before .before .before .args in
-    steps-answered (a .layout) (now (a .list)) (a .count) (rw (← c .before .first-bad-step .ensures, le-ltb _ _ (c .if1 .taken)))
+    let l = c .before .before .before .before .before in
+    let a = l .before .before .args in
+    steps-answered (a .layout) (now (a .list)) (a .count)
+    (sym (l .loop .inv .0 ∙ steps-stop (a .layout) (now (a .list)) (l .loop .j) (a .count) (search needs)
+    (sym (c .before .before .before .step-at .ensures .0) ∙ c .before .why .given .1)))
 
--- the first bad step, read again: if it were good there would be nothing to refuse
-returns-2 : tie.Need-returns-2
-unfolding stepsChecked
+-- a step that passes
+loop-again : tie.Need-loop-again Inv-loop μ-loop
+loop-again c =
+    let l = c .before .before .before .before in
+    let a = l .before .before .args in (
+      l .loop .inv .0 ∙ steps-more (a .layout) (now (a .list)) (l .loop .j) (a .count) (search needs)
+          (sym (c .before .before .step-at .ensures .0) ∙ c .enum-told .given .1),
+      omega arith,
+    )
+
+-- all of them pass
+returns-2 : tie.Need-returns-2 Inv-loop μ-loop
 returns-2 c =
-    let e = c .before .before .before in
-    let a = e .before .before .before .args in
-    steps-answered (a .layout) (now (a .list)) (a .count) (rw (← e .before .first-bad-step .ensures, lt-ltb _ _ (e .if1 .left), sym (c .before .before .step-at .ensures .0) ∙ c .enum-told .given .1))
-
--- .. and why it is refused
-returns-3 : tie.Need-returns-3
-unfolding stepsChecked
-returns-3 c =
-    let k = c .before in
-    let e = k .before .before .before in
-    let a = e .before .before .before .args in
-    steps-answered (a .layout) (now (a .list)) (a .count) (rw (← e .before .first-bad-step .ensures, lt-ltb _ _ (e .if1 .left), sym (k .before .before .step-at .ensures .0) ∙ k .why .given .1))
+    let l = c .before in
+    let a = l .before .before .args in
+    steps-answered (a .layout) (now (a .list)) (a .count)
+    (sym (l .loop .inv .0 ∙ steps-end (a .layout) (now (a .list)) (l .loop .j) (a .count) (omega arith)))
 
 pub check-steps-spec : {M : Type 1} → statement M
 check-steps-spec =
     tie.close
     (tie.spec
+    Inv-loop
+    μ-loop
+    (λ c. (rw sub-zero, omega arith))
     (λ c κs. search needs)
+    (λ c. search needs)
     returns
-    (λ c κs. search needs)
     (λ c. search needs)
-    (λ c. search needs)
-    returns-2
-    returns-3)
+    (λ c. omega arith)
+    (λ c. omega arith)
+    loop-again
+    returns-2)

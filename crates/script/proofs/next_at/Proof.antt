@@ -12,21 +12,25 @@ use Rattle.script.proofs.next_at.Tie as tie
 returns : tie.Need-returns
 returns c =
     let a = c .before .before .before .args in
-    next-answered (now (a .file)) (a .at) (sym (next-past (now (a .file)) (a .at) (omega (arith, c .before .step-count .ensures))))
+    next-answered (now (a .file)) (a .at) (sym (next-past (now (a .file)) (a .at) (omega arith)))
 
 -- what is no step
 returns-2 : tie.Need-returns-2
 returns-2 c =
     let t = c .before .before .before in
     let a = t .before .before .before .before .args in
-    next-answered (now (a .file)) (a .at) (c .as-next .ensures ∙ ap (λ r. asNext r (a .at)) (t .step-at .ensures .0) ∙ sym (next-there (now (a .file)) (a .at) (omega (arith, t .before .before .step-count .ensures))))
+    let f = now (a .file) in
+    next-answered f (a .at)
+    (c .as-next .ensures ∙ ap (λ r. asNext r (a .at)) (t .step-at .ensures .0) ∙ sym (next-there f (a .at) (omega arith)))
 
 -- a step
 returns-3 : tie.Need-returns-3
 returns-3 c =
     let t = c .before .before .before in
     let a = t .before .before .before .before .args in
-    next-answered (now (a .file)) (a .at) (ap (λ r. asNext r (a .at)) (sym (c .before .read .given .1) ∙ t .step-at .ensures .0) ∙ sym (next-there (now (a .file)) (a .at) (omega (arith, t .before .before .step-count .ensures))))
+    let f = now (a .file) in
+    next-answered f (a .at)
+    (ap (λ r. asNext r (a .at)) (sym (c .before .read .given .1) ∙ t .step-at .ensures .0) ∙ sym (next-there f (a .at) (omega arith)))
 
 pub next-at-spec : {M : Type 1} → statement M
 next-at-spec =

@@ -13,13 +13,13 @@ use Rattle.script.proofs.step_at.Tie as tie
 returns : tie.Need-returns
 returns c =
     let a = c .before .before .before .args in
-    read-answered _ (sym (read-short (now (a .list)) (stepPlace (a .layout) (a .j)) (omega (arith, c .before .ahead .ensures .0))))
+    read-answered _ (sym (read-short (now (a .list)) (stepPlace (a .layout) (a .j)) (omega arith)))
 
 -- .. or inside it
 returns-2 : tie.Need-returns-2
 returns-2 c =
     let a = c .before .before .before .before .args in
-    read-answered _ (sym (read-short (now (a .list)) (stepPlace (a .layout) (a .j)) (omega (arith, c .before .before .ahead .ensures .0))))
+    read-answered _ (sym (read-short (now (a .list)) (stepPlace (a .layout) (a .j)) (omega arith)))
 
 -- the step is there
 returns-3 : tie.Need-returns-3

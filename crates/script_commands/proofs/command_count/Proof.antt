@@ -16,6 +16,9 @@ command-count-spec =
     (λ c κs. search needs)
     (λ c κs. search needs)
     (λ c. search needs)
+    -- SET
     (λ c. rw (c .before .before .before .s .given .1, ← c .before .ports-of .ensures) (c .set-count .ensures _ _))
+    -- FIELD
     (λ c. rw (c .before .before .before .s2 .given .1, ← c .before .ports-of2 .ensures) (c .field-count .ensures _ _ _))
+    -- COLOUR
     (λ c. rw (c .enum-told .given .1)))

@@ -12,6 +12,7 @@ command-of-spec =
     (tie.spec
     (λ c. search needs)
     (λ c. search needs)
+    -- OUT, IN, MERGE, OUT of the accumulator, and no known form
     (λ c. rw (eq-eqb _ _ (c .if1 .taken)))
     (λ c. rw (ne-eqb _ _ (c .before .if1 .left), c .if2 .taken))
     (λ c. rw (ne-eqb _ _ (c .before .before .if1 .left), c .before .if2 .left, c .if3 .taken))

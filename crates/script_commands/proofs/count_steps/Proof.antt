@@ -28,10 +28,8 @@ add-k c =
     let (m, acc) = l .before .before .pre in
     omega (
       arith,
-      c .command-count .ensures,
       expanded-most (c .before .before .next .given .0 .0),
       begins-most f (l .loop .j),
-      l .loop .inv .0,
       found-before f (l .loop .j) _ (sym (c .before .before .before .before .nth .ensures .0) ∙ c .before .before .next .given .1),
       answer-says f acc .count,
       accepted-few f m acc .1,
@@ -42,7 +40,7 @@ loop-again c =
     let l = c .before .before .before .before .before .before in
     let f = l .before .before .args .file .now in
     let is = sym (c .before .before .before .before .nth .ensures .0) ∙ c .before .before .next .given .1 in
-    (omega (arith, c .command-count .ensures, l .loop .inv .0, begins-next f (l .loop .j) _ is), omega arith)
+    (omega (arith, begins-next f (l .loop .j) _ is), omega arith)
 
 pub count-steps-spec : {M : Type 1} → statement M
 count-steps-spec =

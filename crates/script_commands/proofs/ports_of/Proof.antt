@@ -9,6 +9,7 @@ unfolding ways
 ports-of-spec =
     tie.close
     (tie.spec
+    -- CR, SR, GR, XR, FR, MR, MSR, PALMASK, AR, and no group
     (λ c. rw (c .match .keys1))
     (λ c. rw (c .match .keys2))
     (λ c. rw (c .match .keys3))

@@ -22,8 +22,12 @@ put-step-spec =
     (λ c κs. search needs)
     (λ c κs. search needs)
     (λ c. search needs)
+    -- SET
     (λ c. rw (c .before .before .before .before .before .before .s .given .1, ← c .before .before .before .before .ports-of .ensures) (c .before .before .put-set .ensures))
     (λ c. search needs)
+    -- FIELD
     (λ c. rw (c .before .before .before .before .before .before .s2 .given .1, ← c .before .before .before .before .ports-of2 .ensures) (c .before .before .put-field .ensures))
     (λ c. search needs)
-    (λ c. rw (c .before .before .before .before .before .before .before .before .before .s3 .given .1) (sent-append (c .before .before .before .before .before .before .put-outs .ensures) (c .before .before .put-outs2 .ensures) (omega (arith, c .before .before .before .before .before .before .put-outs .ensures .next, c .before .before .put-outs2 .ensures .next)))))
+    -- COLOUR
+    (λ c. let b = c .before .before .before .before .before .before in
+    rw (b .before .before .before .s3 .given .1) (sent-append (b .put-outs .ensures) (c .before .before .put-outs2 .ensures) (omega arith))))

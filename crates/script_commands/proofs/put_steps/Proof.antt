@@ -6,7 +6,8 @@ use mathlib.Core.Logic.{⊎-elim}
 use lib.ListN.{length}
 use Rattle.script.specs.Reader.{nextOf}
 use Rattle.script.proofs.Reading.{accepted-handed}
-use Rattle.script_commands.specs.Translation.{commandsTo, Sent}
+use Rattle.script_commands.specs.Translation.{commandsTo}
+use Rattle.script_commands.specs.Working.{Sent}
 use Rattle.script_commands.proofs.Expanding.{expanded-most, begins-most}
 use Rattle.script_commands.proofs.Sending.{sent-length}
 use Rattle.script_commands.proofs.Translating.{sent-start, sent-step, steps-put}
@@ -32,14 +33,27 @@ put-steps-spec =
     (λ c. search needs)
     (λ c κs. search needs)
     (λ c. c .before .before .before .before .loop .inv .1)
-    (λ c. let h = accepted-handed _ _ (c .before .before .before .before .before .before .before .pre .0) (c .before .before .before .before .loop .j) (omega arith) in
+    -- the reader hands out every step of an accepted file: this way is not taken
+    (λ c. let l = c .before .before .before .before in
+    let h = accepted-handed _ _ (l .before .before .before .pre .0) (l .loop .j) (omega arith) in
     absurd (⊎-elim (λ w. omega arith) (λ w. omega arith) (rw (c .before .before .nth .ensures .0 ∙ h .answer) at (c .before .match .keys2))))
-    (λ c κs. omega (arith, c .before .before .before .before .before .before .loop .inv .0 .next, begins-most (c .before .before .before .before .before .before .before .before .before .args .file .now) (c .before .before .before .before .before .before .loop .j), c .before .before .before .before .before .before .loop .inv .1))
+    -- there is room for a step's commands
+    (λ c κs. let l = c .before .before .before .before .before .before in
+    omega (arith, begins-most (l .before .before .before .args .file .now) (l .loop .j)))
     (λ c. omega arith)
     (λ c. omega arith)
-    (λ c. let s : nextOf (c .before .before .before .before .before .before .before .before .before .before .before .before .args .file .now) (c .before .before .before .before .before .before .before .before .before .loop .j) ≡ _ = sym (c .before .before .before .before .before .before .before .nth .ensures .0) ∙ c .before .before .before .before .before .next .given .1 in
-    let room : c .before .before .put-step .result ≤ length (c .before .before .before .before .before .before .before .before .before .before .before .before .args .out .now) = omega (arith, c .before .before .put-step .ensures .next, expanded-most (c .before .before .before .before .before .next .given .0 .0), c .before .before .before .before .before .before .before .before .before .loop .inv .0 .next, begins-most (c .before .before .before .before .before .before .before .before .before .before .before .before .args .file .now) (c .before .before .before .before .before .before .before .before .before .loop .j), c .before .before .before .before .before .before .before .before .before .before .before .before .pre .1) in
-    let same : length (c .before .before .before .before .before .before .before .before .before .loop .out) ≡ length (c .before .before .before .before .before .before .before .before .before .before .before .before .args .out .now) = c .before .before .before .before .before .before .before .before .before .loop .inv .1 in
-    (sent-step _ _ _ _ s (c .before .before .before .before .before .before .before .before .before .loop .inv .0) (c .before .before .put-step .ensures) room, sent-length (c .before .before .put-step .ensures) (omega arith) ∙ same, omega arith))
+    -- a step's commands written
+    (λ c. let here = c .before .before .before .before .before in
+    let l = here .before .before .before .before in
+    let a = l .before .before .before .args in
+    let put = c .before .before .put-step in
+    let s : nextOf (a .file .now) (l .loop .j) ≡ _ = sym (here .before .before .nth .ensures .0) ∙ here .next .given .1 in
+    let room : put .result ≤ length (a .out .now) =
+    omega (arith, expanded-most (here .next .given .0 .0), begins-most (a .file .now) (l .loop .j)) in
+    let same : length (l .loop .out) ≡ length (a .out .now) = l .loop .inv .1 in
+    (sent-step _ _ _ _ s (l .loop .inv .0) (put .ensures) room, sent-length (put .ensures) (omega arith) ∙ same, omega arith))
     (λ c. c .before .loop .inv .1)
-    (λ c. let all : c .before .loop .j ≡ c .before .before .before .before .args .m = omega arith in steps-put _ _ _ (rw all at (c .before .loop .inv .0))))
+    -- all m of them
+    (λ c. let l = c .before in
+    let all : l .loop .j ≡ l .before .before .before .args .m = omega arith in
+    steps-put _ _ _ (rw all at (l .loop .inv .0))))

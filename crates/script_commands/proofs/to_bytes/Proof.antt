@@ -17,6 +17,7 @@ to-bytes-spec =
     (λ c. search needs)
     (λ c κs. search needs)
     (λ c κs. search needs)
+    -- OUT, IN, MERGE, and OUT of the accumulator
     (λ c. rw (c .before .low .ensures, c .high .ensures, c .before .before .before .c .given .1))
     (λ c. rw (c .before .low2 .ensures, c .high2 .ensures, c .before .before .before .c2 .given .1))
     (λ c. rw (c .before .c3 .given .1))

@@ -14,8 +14,24 @@ translate-spec =
     (λ c κs. search needs)
     (λ c. search needs)
     (λ c. search needs)
-    (λ c. translated-answered (c .before .before .before .before .before .before .before .args .file .now) (c .before .before .before .before .before .before .before .args .out .now) (too-little-room (c .before .before .before .before .before .before .before .args .file .now) (c .before .before .before .before .before .before .before .args .out .now) _ (sym (c .before .before .before .before .check-file .ensures .0) ∙ c .before .before .m .given .1) (c .if1 .taken)) refl)
-    (λ c κs. (sym (c .before .before .before .before .before .check-file .ensures .0) ∙ c .before .before .before .m .given .1, enough-room (c .before .before .before .before .before .before .before .before .args .file .now) (c .before .before .before .before .before .before .before .before .args .out .now) _ (sym (c .before .before .before .before .before .check-file .ensures .0) ∙ c .before .before .before .m .given .1) (c .before .if1 .left)))
-    (λ c. translated-answered (c .before .before .before .before .before .before .args .file .now) (c .before .before .before .before .before .before .args .out .now) (rw (← c .before .before .before .check-file .ensures .0, c .before .r .given .1) refl) refl)
+    -- 9
+    (λ c. let a = c .before .before .before .before .before .before .before .args in
+    let acc = sym (c .before .before .before .before .check-file .ensures .0) ∙ c .before .before .m .given .1 in
+    translated-answered (a .file .now) (a .out .now) (too-little-room (a .file .now) (a .out .now) _ acc (c .if1 .taken)) refl)
+    -- what `put_steps` requires
+    (λ c κs. let b = c .before .before .before in
+    let a = b .before .before .before .before .before .args in
+    let acc = sym (b .before .before .check-file .ensures .0) ∙ b .m .given .1 in
+    (acc, enough-room (a .file .now) (a .out .now) _ acc (c .before .if1 .left)))
+    -- the check's refusal
+    (λ c. let b = c .before .before .before in
+    let a = b .before .before .before .args in
+    translated-answered (a .file .now) (a .out .now) (rw (← b .check-file .ensures .0, c .before .r .given .1) refl) refl)
     (λ c. search needs)
-    (λ c. let (is, left) = translated-whole (c .before .before .before .before .before .before .before .before .before .before .before .args .file .now) (c .before .before .before .before .before .before .before .before .before .before .before .args .out .now) _ (sym (c .before .before .before .before .before .before .before .before .check-file .ensures .0) ∙ c .before .before .before .before .before .before .m .given .1) (c .before .before .before .before .if1 .left) (c .before .before .put-steps .ensures) in translated-answered (c .before .before .before .before .before .before .before .before .before .before .before .args .file .now) (c .before .before .before .before .before .before .before .before .before .before .before .args .out .now) is left))
+    -- the steps written
+    (λ c. let b = c .before .before .before .before .before .before in
+    let a = b .before .before .before .before .before .args in
+    let acc = sym (b .before .before .check-file .ensures .0) ∙ b .m .given .1 in
+    let put = c .before .before .put-steps .ensures in
+    let (is, left) = translated-whole (a .file .now) (a .out .now) _ acc (c .before .before .before .before .if1 .left) put in
+    translated-answered (a .file .now) (a .out .now) is left))
