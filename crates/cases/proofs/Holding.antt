@@ -13,7 +13,7 @@ use Rattle.chip_registers.specs.Groups.{groupAt, rowOf}
 use Rattle.chip_registers.specs.Indexes.{indexKept, fits}
 use Rattle.chip_registers.specs.WriteRule.{lockedBy, leftOpen, writableNow, written}
 use Rattle.chip_ports.specs.Ports.{ports, target}
-use Rattle.chip.specs.Names.{locked, received, portsOpen, colour, eightBit}
+use Rattle.chip.specs.Names.{locked, received, portsOpen, picks3Dx, eightBit}
 use Rattle.chip.specs.Palette.{coloured, loaded, shown}
 use Rattle.chip.specs.Access.{portWritten, portRead}
 use Rattle.chip.specs.Reset.{resetByte, reset}
@@ -33,7 +33,7 @@ use Rattle.cases.specs.Starred.{starred}
 use Rattle.cases.specs.Witnesses.{witnesses}
 
 pub starred-hold : allHold starred ≡ true
-unfolding starred CR SR GR XR MR AR indexKept groupAt rowOf lockedBy leftOpen writableNow written ports target locked received portsOpen colour eightBit coloured loaded shown portWritten portRead resetByte reset number raster usesSource usesPattern byteDone inTurn lineDone linesDone inRange inMemory transferred firstNot every tab names legal fits idle judged shaped stepOf bytesOf wordSum stepsChecked front blocksTo fileWritten bytesOfAll ways expanded
+unfolding starred CR SR GR XR MR AR indexKept groupAt rowOf lockedBy leftOpen writableNow written ports target locked received portsOpen picks3Dx eightBit coloured loaded shown portWritten portRead resetByte reset number raster usesSource usesPattern byteDone inTurn lineDone linesDone inRange inMemory transferred firstNot every tab names legal fits idle judged shaped stepOf bytesOf wordSum stepsChecked front blocksTo fileWritten bytesOfAll ways expanded
 starred-hold = refl
 
 pub starred-numbers : numbers starred ≡ 1 ∷ 2 ∷ 4 ∷ 6 ∷ 7 ∷ 8 ∷ 9 ∷ 10 ∷ 12 ∷ 13 ∷ []
@@ -41,5 +41,5 @@ unfolding starred
 starred-numbers = refl
 
 pub witnesses-hold : rowsHold witnesses ≡ true
-unfolding witnesses CR SR GR XR MR AR indexKept groupAt rowOf lockedBy leftOpen writableNow written ports target locked received portsOpen colour eightBit coloured loaded shown portWritten portRead resetByte reset number raster usesSource usesPattern byteDone inTurn lineDone linesDone inRange inMemory transferred firstNot every tab names legal fits idle judged shaped stepOf bytesOf wordSum stepsChecked front blocksTo fileWritten bytesOfAll ways expanded
+unfolding witnesses CR SR GR XR MR AR indexKept groupAt rowOf lockedBy leftOpen writableNow written ports target locked received portsOpen picks3Dx eightBit coloured loaded shown portWritten portRead resetByte reset number raster usesSource usesPattern byteDone inTurn lineDone linesDone inRange inMemory transferred firstNot every tab names legal fits idle judged shaped stepOf bytesOf wordSum stepsChecked front blocksTo fileWritten bytesOfAll ways expanded
 witnesses-hold = refl

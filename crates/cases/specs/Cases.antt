@@ -9,7 +9,7 @@ use Rattle.chip_registers.specs.declared.Group.{Group}
 use Rattle.chip.specs.State.{named}
 use Rattle.chip.specs.Names.{register}
 use Rattle.chip.specs.Palette.{entry, shown}
-use Rattle.chip.specs.Access.{numberOf, portWritten, portRead}
+use Rattle.chip.specs.Access.{answerNumber, portWritten, portRead}
 use Rattle.chip.specs.Reset.{reset}
 use Rattle.chip.specs.declared.Chip.{Chip}
 use Rattle.chip.specs.declared.Rgb.{Rgb}
@@ -66,9 +66,9 @@ components c = c .red ∷ c .green ∷ c .blue ∷ []
 
 abbrev pub happens : Chip → List Event → Bool
 happens c [] = true
-happens c (gets p v ∷ es) = eqb (numberOf (portWritten c p v .answer)) 0 && happens (portWritten c p v .chip) es
-happens c (refuses p v number ∷ es) = eqb (numberOf (portWritten c p v .answer)) number && happens (portWritten c p v .chip) es
-happens c (reads p v ∷ es) = eqb (numberOf (portRead c p .answer)) 0 && (eqb (portRead c p .value) v && happens (portRead c p .chip) es)
+happens c (gets p v ∷ es) = eqb (answerNumber (portWritten c p v .answer)) 0 && happens (portWritten c p v .chip) es
+happens c (refuses p v number ∷ es) = eqb (answerNumber (portWritten c p v .answer)) number && happens (portWritten c p v .chip) es
+happens c (reads p v ∷ es) = eqb (answerNumber (portRead c p .answer)) 0 && (eqb (portRead c p .value) v && happens (portRead c p .chip) es)
 happens c (is g i v ∷ es) = eqb (register g (named c) i) v && happens c es
 happens c (colour e r g b ∷ es) = same (components (entry (named c) e)) (r ∷ g ∷ b ∷ []) && happens c es
 happens c (shows p r g b ∷ es) = same (components (shown (named c) p)) (r ∷ g ∷ b ∷ []) && happens c es

@@ -2,7 +2,7 @@
 // witnesses of must-fail edits (specs/Witnesses), and in code what the program
 // `setups` asks of a chip. The cases of document 02's requests are crate `cases_requests`.
 ghost use mathlib.Core.Path.{_≡_};
-ghost use Rattle.chip.specs.Access.{numberOf, portWritten, portRead};
+ghost use Rattle.chip.specs.Access.{answerNumber, portWritten, portRead};
 use chip::Chip;
 
 // A chip after a write to a port, and the number of the write.
@@ -14,7 +14,7 @@ pub fn after_write(c: Chip, port: u16, v: u8) -> Chip
 }
 
 pub fn write_number(c: Chip, port: u16, v: u8) -> u8
-    ensures { λ r. ⌜ r ≡ numberOf (portWritten c port v .answer) ⌝ }
+    ensures { λ r. ⌜ r ≡ answerNumber (portWritten c port v .answer) ⌝ }
 {
     let w = c.write(port, v);
     let answer = w.answer;
@@ -37,7 +37,7 @@ pub fn byte_read(c: Chip, port: u16) -> u8
 }
 
 pub fn read_number(c: Chip, port: u16) -> u8
-    ensures { λ r. ⌜ r ≡ numberOf (portRead c port .answer) ⌝ }
+    ensures { λ r. ⌜ r ≡ answerNumber (portRead c port .answer) ⌝ }
 {
     let s = c.read(port);
     let answer = s.answer;

@@ -11,7 +11,7 @@ use Rattle.chip_registers.specs.Groups.{groupAt, rowOf}
 use Rattle.chip_registers.specs.Indexes.{indexKept, fits}
 use Rattle.chip_registers.specs.WriteRule.{lockedBy, leftOpen, writableNow, written}
 use Rattle.chip_ports.specs.Ports.{ports, target}
-use Rattle.chip.specs.Names.{locked, received, portsOpen, colour, eightBit}
+use Rattle.chip.specs.Names.{locked, received, portsOpen, picks3Dx, eightBit}
 use Rattle.chip.specs.Palette.{coloured, loaded, shown}
 use Rattle.chip.specs.Access.{portWritten, portRead}
 use Rattle.chip.specs.Reset.{resetByte, reset}
@@ -30,5 +30,5 @@ use Rattle.cases.specs.Cases.{allHold}
 use Rattle.cases_requests.specs.Asked.{asked}
 
 pub requests-hold : allHold asked ≡ true
-unfolding asked CR SR GR XR MR AR indexKept groupAt rowOf lockedBy leftOpen writableNow written ports target locked received portsOpen colour eightBit coloured loaded shown portWritten portRead resetByte reset number raster usesSource usesPattern byteDone inTurn lineDone linesDone inRange inMemory transferred firstNot every tab names legal fits idle judged shaped stepOf bytesOf wordSum stepsChecked front blocksTo fileWritten bytesOfAll ways expanded
+unfolding asked CR SR GR XR MR AR indexKept groupAt rowOf lockedBy leftOpen writableNow written ports target locked received portsOpen picks3Dx eightBit coloured loaded shown portWritten portRead resetByte reset number raster usesSource usesPattern byteDone inTurn lineDone linesDone inRange inMemory transferred firstNot every tab names legal fits idle judged shaped stepOf bytesOf wordSum stepsChecked front blocksTo fileWritten bytesOfAll ways expanded
 requests-hold = refl

@@ -19,7 +19,7 @@ use Rattle.chip_ports.specs.Ports.{target}
 use Rattle.chip_ports.specs.declared.Target.{Target}
 use Rattle.chip_ports.specs.declared.Target.the-variants.{Index, Data, ReadIndex, WriteIndex, Paldata, Attribute, Status, NotPicked, NotListed}
 use Rattle.chip.specs.State.{Named, named, withNamed, withLoading, withPicture, withTurn, indexOf}
-use Rattle.chip.specs.Names.{register, locked, writableAt, received, portsOpen, colour}
+use Rattle.chip.specs.Names.{register, locked, writableAt, received, portsOpen, picks3Dx}
 use Rattle.chip.specs.Palette.{loaded, coloured, moved}
 use Rattle.chip.specs.Attribute.{attributeSet, attributeAimed, turnReturned}
 use Rattle.chip.specs.Access.{writeTo, readFrom, portWritten, portRead, wrote, seen}
@@ -39,20 +39,20 @@ module _ (c : Chip) (p : ℕ) (shut : portsOpen (named c) ≡ false) where
 
 -- where they are open an access is what the port's target says
 module _ (c : Chip) (p : ℕ) (free : portsOpen (named c) ≡ true) where
-  pub write-open : (v : ℕ) → portWritten c p v ≡ writeTo (target (colour (named c)) true p) c v
+  pub write-open : (v : ℕ) → portWritten c p v ≡ writeTo (target (picks3Dx (named c)) true p) c v
   unfolding portWritten
   write-open v = rw free
 
-  pub read-open : portRead c p ≡ readFrom (target (colour (named c)) false p) c
+  pub read-open : portRead c p ≡ readFrom (target (picks3Dx (named c)) false p) c
   unfolding portRead
   read-open = rw free
 
   -- a data port works on the register at the group's index, as by name
-  pub write-data : (g : Group) (v : ℕ) → target (colour (named c)) true p ≡ Data g
+  pub write-data : (g : Group) (v : ℕ) → target (picks3Dx (named c)) true p ≡ Data g
       → portWritten c p v ≡ wrote Done (withNamed c (received g (named c) (indexOf g (c .indexes)) v))
   write-data g v leads = write-open v ∙ rw leads refl
 
-  pub read-data : (g : Group) → target (colour (named c)) false p ≡ Data g → portRead c p ≡ seen Done (register g (named c) (indexOf g (c .indexes))) c
+  pub read-data : (g : Group) → target (picks3Dx (named c)) false p ≡ Data g → portRead c p ≡ seen Done (register g (named c) (indexOf g (c .indexes))) c
   read-data g leads = read-open ∙ rw leads refl
 
 -- what holds of the state as it was, and of what a write makes of it at each target, holds after every port write
@@ -60,8 +60,8 @@ pub write-cases : (P : Chip → Type 0) (c : Chip) (p v : ℕ) → P c → ((t :
 unfolding portWritten
 write-cases P c p v same at = go (portsOpen (named c))
   where
-    go : (z : Bool) → P (cond z (writeTo (target (colour (named c)) true p) c v) (wrote Closed c) .chip)
-    go true = at (target (colour (named c)) true p)
+    go : (z : Bool) → P (cond z (writeTo (target (picks3Dx (named c)) true p) c v) (wrote Closed c) .chip)
+    go true = at (target (picks3Dx (named c)) true p)
     go false = same
 
 -- a port read leaves the state, moves the palette's position or returns the turn; so what holds of these three holds after every
@@ -81,8 +81,8 @@ state-read P c p same move turn = go (portsOpen (named c))
     at NotPicked = same
     at NotListed = same
 
-    go : (z : Bool) → P (cond z (readFrom (target (colour (named c)) false p) c) (seen Closed 0xFF c) .chip)
-    go true = at (target (colour (named c)) false p)
+    go : (z : Bool) → P (cond z (readFrom (target (picks3Dx (named c)) false p) c) (seen Closed 0xFF c) .chip)
+    go true = at (target (picks3Dx (named c)) false p)
     go false = same
 
 -- a port read changes nothing but the palette's loading state and the turn
@@ -90,8 +90,8 @@ pub read-keeps-all : (c : Chip) (p : ℕ)
     → (named (portRead c p .chip) ≡ named c) × (withTurn (portRead c p .chip .indexes) false ≡ withTurn (c .indexes) false)
 read-keeps-all c p = state-read (λ d. (named d ≡ named c) × (withTurn (d .indexes) false ≡ withTurn (c .indexes) false)) c p (refl, refl) (refl, refl) (refl, refl)
 
--- what a port write makes of what has a name: the same, a register that received the byte, a colour stored, or the picture on or off;
--- so what holds of these four holds after every port write
+-- what a port write makes of what has a name: the same, a register that received the byte, a colour stored, or the picture on or
+-- off; so what holds of these four holds after every port write
 module _ (P : Named → Type 0) (c : Chip) (v : ℕ)
     (same : P (named c)) (set : (g : Group) → P (received g (named c) (indexOf g (c .indexes)) v)) (store : (e r g b : ℕ) → P (coloured (named c) e r g b))
     (light : (b : Bool) → P (withPicture (named c) b)) where

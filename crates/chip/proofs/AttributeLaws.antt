@@ -1,6 +1,7 @@
--- The attribute registers by ports. Document 02, P1: what 3C0h, 3C1h and the two status ports do, read and written, for every state
--- with open ports. From the index's turn an index and then a byte are a write by name; the index reads back without bits 6 and 7; reading
--- index or data leaves the whole state; reading the status port that is picked returns the turn, and the other one leaves it.
+-- The attribute registers by ports. Document 02, P1: what 3C0h, 3C1h and the two status ports do, read and written, for every
+-- state with open ports. From the index's turn an index and then a byte are a write by name; the index reads back without bits 6
+-- and 7; reading index or data leaves the whole state; reading the status port that is picked returns the turn, and the other one
+-- leaves it.
 use Prim.Native.Nat.{ℕ, _+_, _%_}
 use native.Mathlib.Omega.{arith}
 use borrow.Author.Tests.{eqb-true, eqb-false}
@@ -11,7 +12,7 @@ use Rattle.chip_registers.specs.Indexes.{indexKept}
 use Rattle.chip_registers.specs.declared.Group.the-variants.{Ar}
 use Rattle.chip_ports.specs.Ports.{ports, target}
 use Rattle.chip.specs.State.{named, join, withPicture, withTurn, indexOf, withIndex}
-use Rattle.chip.specs.Names.{register, received, portsOpen, colour}
+use Rattle.chip.specs.Names.{register, received, portsOpen, picks3Dx}
 use Rattle.chip.specs.Attribute.{attributeIndex, attributeAimed, attributeSet, attributeWritten, turnReturned}
 use Rattle.chip.specs.Access.{portWritten, portRead, wrote, seen}
 use Rattle.chip.specs.declared.Chip.{Chip}
@@ -40,12 +41,12 @@ module _ (c : Chip) (free : portsOpen (named c) ≡ true) where
   attribute-data-read = read-open c 0x3C1 free
 
   -- input status 1 is read at 3DAh or 3BAh, by MSR bit 0; the other port reads FFh
-  pub status-read : (b : Bool) → colour (named c) ≡ b → portRead c (cond b 0x3DA 0x3BA) ≡ seen Done 0x00 (turnReturned c)
+  pub status-read : (b : Bool) → picks3Dx (named c) ≡ b → portRead c (cond b 0x3DA 0x3BA) ≡ seen Done 0x00 (turnReturned c)
   unfolding target ports
   status-read true picks = read-open c 0x3DA free ∙ rw picks
   status-read false picks = read-open c 0x3BA free ∙ rw picks
 
-  pub status-not-picked : (b : Bool) → colour (named c) ≡ b → portRead c (cond b 0x3BA 0x3DA) ≡ seen Done 0xFF c
+  pub status-not-picked : (b : Bool) → picks3Dx (named c) ≡ b → portRead c (cond b 0x3BA 0x3DA) ≡ seen Done 0xFF c
   unfolding target ports
   status-not-picked true picks = read-open c 0x3BA free ∙ rw picks
   status-not-picked false picks = read-open c 0x3DA free ∙ rw picks

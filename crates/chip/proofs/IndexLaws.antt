@@ -18,7 +18,7 @@ use Rattle.chip_registers.specs.declared.Group.the-variants.{Cr, Sr, Gr, Xr, Fr
 use Rattle.chip_ports.specs.Ports.{ports, target}
 use Rattle.chip_ports.specs.declared.Target.the-variants.{Index, Data}
 use Rattle.chip.specs.State.{Named, named, join, withNamed, withIndexes, withTurn, indexByte, withIndexByte, indexOf, withIndex}
-use Rattle.chip.specs.Names.{locked, received, portsOpen, colour}
+use Rattle.chip.specs.Names.{locked, received, portsOpen, picks3Dx}
 use Rattle.chip.specs.Access.{portWritten, portRead, wrote, seen}
 use Rattle.chip.specs.declared.Chip.{Chip}
 use Rattle.chip.specs.declared.Indexes.{Indexes}
@@ -51,7 +51,8 @@ byte-other g Msr x v e = refl
 byte-other g Palmask x v e = refl
 byte-other g Ar x v e = rw e
 
--- so an index that was written holds the bits of it that are kept, it is the same to write those alone, and the other groups' indexes stay
+-- so an index that was written holds the bits of it that are kept, it is the same to write those alone, and the other groups'
+-- indexes stay
 pub index-same : (g : Group) (x : Indexes) (v : ℕ) → indexOf g (withIndex g x v) ≡ indexKept g v
 index-same g x v = ap (indexKept g) (byte-written g x v) ∙ kept-again g v
 
@@ -74,25 +75,25 @@ index-turn Palmask x turn = refl
 index-turn Ar x turn = refl
 
 -- through the ports: what a write to an index port leaves, and what index ports read then
-module _ (c : Chip) (p v : ℕ) (g : Group) (free : portsOpen (named c) ≡ true) (writes : target (colour (named c)) true p ≡ Index g) where
+module _ (c : Chip) (p v : ℕ) (g : Group) (free : portsOpen (named c) ≡ true) (writes : target (picks3Dx (named c)) true p ≡ Index g) where
   pub write-index : portWritten c p v ≡ wrote Done (withIndexes c (withIndex g (c .indexes) v))
   write-index = write-open c p free v ∙ rw writes refl
 
-  now-reads : (q : ℕ) (h : Group) → target (colour (named c)) false q ≡ Index h
+  now-reads : (q : ℕ) (h : Group) → target (picks3Dx (named c)) false q ≡ Index h
       → portRead (portWritten c p v .chip) q ≡ seen Done (indexOf h (withIndex g (c .indexes) v)) (portWritten c p v .chip)
   now-reads q h reads = rw write-index (read-open (withIndexes c (withIndex g (c .indexes) v)) q free ∙ rw reads refl)
 
-  pub index-reads-back : target (colour (named c)) false p ≡ Index g → portRead (portWritten c p v .chip) p ≡ seen Done (indexKept g v) (portWritten c p v .chip)
+  pub index-reads-back : target (picks3Dx (named c)) false p ≡ Index g → portRead (portWritten c p v .chip) p ≡ seen Done (indexKept g v) (portWritten c p v .chip)
   index-reads-back reads = now-reads p g reads ∙ ap (λ (b : ℕ). seen Done b (portWritten c p v .chip)) (index-same g (c .indexes) v)
 
-  pub index-reads-other : (q : ℕ) (h : Group) → (numberOf g ≡ numberOf h → ⊥) → target (colour (named c)) false q ≡ Index h
+  pub index-reads-other : (q : ℕ) (h : Group) → (numberOf g ≡ numberOf h → ⊥) → target (picks3Dx (named c)) false q ≡ Index h
       → portRead (portWritten c p v .chip) q .value ≡ portRead c q .value
   index-reads-other q h other reads =
       ap (λ (s : Seen). s .value) (now-reads q h reads) ∙ index-other g h (c .indexes) v other
       ∙ sym (rw (read-open c q free, reads) refl)
 
   -- an index and then a byte: the register at the bits that are kept receives the byte, as by name
-  pub register-by-ports : (q b : ℕ) → target (colour (named c)) true q ≡ Data g
+  pub register-by-ports : (q b : ℕ) → target (picks3Dx (named c)) true q ≡ Data g
       → portWritten (portWritten c p v .chip) q b
       ≡ wrote Done (join (received g (named c) (indexKept g v) b) (withIndex g (c .indexes) v) (c .loading))
   register-by-ports q b data-port =
@@ -100,14 +101,14 @@ module _ (c : Chip) (p v : ℕ) (g : Group) (free : portsOpen (named c) ≡ true
       ∙ ap (λ (i : ℕ). wrote Done (join (received g (named c) i b) (withIndex g (c .indexes) v) (c .loading))) (index-same g (c .indexes) v)
 
 -- a long index folds onto a short one
-pub index-folds : (c : Chip) (p v : ℕ) (g : Group) → portsOpen (named c) ≡ true → target (colour (named c)) true p ≡ Index g
+pub index-folds : (c : Chip) (p v : ℕ) (g : Group) → portsOpen (named c) ≡ true → target (picks3Dx (named c)) true p ≡ Index g
     → portWritten c p v ≡ portWritten c p (indexKept g v)
 index-folds c p v g free writes =
     write-index c p v g free writes ∙ ap (λ (x : Indexes). wrote Done (withIndexes c x)) (sym (index-kept g (c .indexes) v))
     ∙ sym (write-index c p (indexKept g v) g free writes)
 
 -- the pair that MSR bit 0 does not pick reads FFh and writes nothing, its index port like its data port
-pub pair-not-picked : (c : Chip) → portsOpen (named c) ≡ true → (b : Bool) → colour (named c) ≡ b → (v : ℕ)
+pub pair-not-picked : (c : Chip) → portsOpen (named c) ≡ true → (b : Bool) → picks3Dx (named c) ≡ b → (v : ℕ)
     → (portRead c (cond b 0x3B4 0x3D4) ≡ seen Done 0xFF c) × (portWritten c (cond b 0x3B4 0x3D4) v ≡ wrote Done c)
     × (portRead c (cond b 0x3B5 0x3D5) ≡ seen Done 0xFF c) × (portWritten c (cond b 0x3B5 0x3D5) v ≡ wrote Done c)
 unfolding target ports
@@ -117,8 +118,8 @@ pair-not-picked c free false picks v =
     (read-open c 0x3D4 free ∙ rw picks, write-open c 0x3D4 free v ∙ rw picks, read-open c 0x3D5 free ∙ rw picks, write-open c 0x3D5 free v ∙ rw picks)
 
 -- MSR bit 0 picks the pair, as 3C2h last received it: 1 is 3D4h and 3D5h, 0 is 3B4h and 3B5h. There is one CR index behind both
-MSR-sets-pair : (n : Named) (v : ℕ) → colour (received Msr n 0x00 v) ≡ isSet 0 v
-unfolding colour locked lockedBy writableNow rowOf
+MSR-sets-pair : (n : Named) (v : ℕ) → picks3Dx (received Msr n 0x00 v) ≡ isSet 0 v
+unfolding picks3Dx locked lockedBy writableNow rowOf
 MSR-sets-pair n v = ap (λ (d : ℕ). eqb d 1) (received-bit 0 Msr n 0x00 v (omega arith) (omega arith))
 
 MSR-leaves-ports : (n : Named) (v : ℕ) → portsOpen (received Msr n 0x00 v) ≡ portsOpen n
@@ -141,9 +142,9 @@ MSR-picks-pair c free v b e =
     open-still : portsOpen (named d) ≡ true
     open-still = MSR-leaves-ports (named c) v ∙ free
 
-    picks : colour (named d) ≡ b
+    picks : picks3Dx (named d) ≡ b
     picks = MSR-sets-pair (named c) v ∙ e
 
-    picked : (b : Bool) → colour (named d) ≡ b → portRead d (cond b 0x3D4 0x3B4) ≡ seen Done (indexOf Cr (c .indexes)) d
+    picked : (b : Bool) → picks3Dx (named d) ≡ b → portRead d (cond b 0x3D4 0x3B4) ≡ seen Done (indexOf Cr (c .indexes)) d
     picked true p = read-open d 0x3D4 open-still ∙ rw p
     picked false p = read-open d 0x3B4 open-still ∙ rw p

@@ -15,7 +15,7 @@ use Rattle.chip_ports.specs.declared.Target.{Target}
 use Rattle.chip_ports.specs.declared.Target.the-variants.{Index, Data, ReadIndex, WriteIndex, Paldata, Attribute, Status, NotPicked, NotListed}
 use Rattle.chip_ports.proofs.PortLaws.{holds, target-elsewhere}
 use Rattle.chip.specs.State.{named, withLoading}
-use Rattle.chip.specs.Names.{portsOpen, colour}
+use Rattle.chip.specs.Names.{portsOpen, picks3Dx}
 use Rattle.chip.specs.Palette.{coloured, aimed, held, moved, palstate}
 use Rattle.chip.specs.Attribute.{attributeSet, attributeAimed}
 use Rattle.chip.specs.Access.{writeTo, portWritten, portRead, wrote}
@@ -121,10 +121,10 @@ PALSTATE-kept-by-write c p v read-index write-index = let same = go (portsOpen (
     elsewhere : has p (0x3C7 ∷ 0x3C8 ∷ []) ≡ false
     elsewhere = rw (ne-eqb p 0x3C7 read-index, ne-eqb p 0x3C8 write-index)
 
-    go : (z : Bool) → cond z (writeTo (target (colour (named c)) true p) c v) (wrote Closed c) .chip .loading .reading ≡ c .loading .reading
+    go : (z : Bool) → cond z (writeTo (target (picks3Dx (named c)) true p) c v) (wrote Closed c) .chip .loading .reading ≡ c .loading .reading
     go true =
-        target-state (target (colour (named c)) true p) c v
-        (target-elsewhere (λ t. not (aims t)) (0x3C7 ∷ 0x3C8 ∷ []) (colour (named c)) true p (aims-there (colour (named c))) elsewhere)
+        target-state (target (picks3Dx (named c)) true p) c v
+        (target-elsewhere (λ t. not (aims t)) (0x3C7 ∷ 0x3C8 ∷ []) (picks3Dx (named c)) true p (aims-there (picks3Dx (named c))) elsewhere)
     go false = refl
 
 pub PALSTATE-kept-by-read : (c : Chip) (p : ℕ) → palstate (portRead c p .chip .loading) ≡ palstate (c .loading)

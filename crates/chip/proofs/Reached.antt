@@ -1,5 +1,5 @@
 -- A port access, once it is known whether the ports are open and where the port leads: what the proofs of `read` and `write`
--- cite for each of their cases.
+-- cite.
 use Prim.Native.Nat.{ℕ}
 use mathlib.Core.Bool.{Bool, true, false, not}
 use mathlib.Core.Path.{_≡_}
@@ -7,7 +7,7 @@ use borrow.Author.Tests.{not-true, not-false}
 use Rattle.chip_ports.specs.Ports.{target}
 use Rattle.chip_ports.specs.declared.Target.{Target}
 use Rattle.chip.specs.State.{named}
-use Rattle.chip.specs.Names.{portsOpen, colour}
+use Rattle.chip.specs.Names.{portsOpen, picks3Dx}
 use Rattle.chip.specs.Access.{portWritten, portRead, writeTo, readFrom, wrote, seen}
 use Rattle.chip.specs.declared.Chip.{Chip}
 use Rattle.chip.specs.declared.access.Answer.the-variants.{Closed}
@@ -22,11 +22,11 @@ module _ (c : Chip) (p : ℕ) {answers : Bool} (is : answers ≡ portsOpen (name
     unfolding portRead
     closed-read = rw (← is, not-true answers shut)
 
-  module _ (free : not answers ≡ false) {b : Bool} (picks : b ≡ colour (named c)) {found t : Target} where
-    pub reached-write : found ≡ target b true p → found ≡ t → (v : ℕ) → writeTo t c v ≡ portWritten c p v
+  module _ (free : not answers ≡ false) {b : Bool} (picks : b ≡ picks3Dx (named c)) {t : Target} where
+    pub reached-write : t ≡ target b true p → (v : ℕ) → writeTo t c v ≡ portWritten c p v
     unfolding portWritten
-    reached-write leads told v = rw (← is, not-false answers free, ← picks, ← leads, told)
+    reached-write leads v = rw (← is, not-false answers free, ← picks, ← leads)
 
-    pub reached-read : found ≡ target b false p → found ≡ t → readFrom t c ≡ portRead c p
+    pub reached-read : t ≡ target b false p → readFrom t c ≡ portRead c p
     unfolding portRead
-    reached-read leads told = rw (← is, not-false answers free, ← picks, ← leads, told)
+    reached-read leads = rw (← is, not-false answers free, ← picks, ← leads)

@@ -1,7 +1,7 @@
 -- Accesses keep sizes: no table and not the palette gets longer or shorter. So in every state that they reach from a reset each
 -- register with an index below 256 has its place, and the palette has 256 entries: what `received-same`, `received-bit` and
--- `coloured-same` ask for. No index passes 255, so this holds of the register and the entry that an index names. And accesses leave in
--- the byte that holds an index no bit that its index register does not keep.
+-- `coloured-same` ask for. No index passes 255, so this holds of the register and the entry that an index names. And accesses
+-- leave in the byte that holds an index no bit that its index register does not keep.
 use Prim.Native.Nat.{ℕ, _%_, _<_}
 use native.Mathlib.Omega.{arith}
 use mathlib.Core.Bool.{Bool, true, false, cond}
@@ -24,7 +24,7 @@ use Rattle.chip_ports.specs.Ports.{target}
 use Rattle.chip_ports.specs.declared.Target.{Target}
 use Rattle.chip_ports.specs.declared.Target.the-variants.{Index, Data, ReadIndex, WriteIndex, Paldata, Attribute, Status, NotPicked, NotListed}
 use Rattle.chip.specs.State.{Named, named, indexByte, indexOf, withIndex}
-use Rattle.chip.specs.Names.{register, received, locked, writableAt, portsOpen, colour, eightBit}
+use Rattle.chip.specs.Names.{register, received, locked, writableAt, portsOpen, picks3Dx, eightBit}
 use Rattle.chip.specs.Palette.{rgb, byMode, entry, coloured, held, moved}
 use Rattle.chip.specs.Attribute.{attributeSet, attributeAimed}
 use Rattle.chip.specs.Access.{writeTo, portWritten}
@@ -82,7 +82,8 @@ reach-palette fresh = length-replicate 256 (rgb 0 0 0)
 reach-palette (wrote {c} p v hv r) = length-palette-written c p v ∙ reach-palette r
 reach-palette (saw {c} p r) = ap (λ (n : Named). length (n .palette)) (read-keeps-all c p .0) ∙ reach-palette r
 
--- the bytes that hold the seven indexes have no bit that their index registers do not keep, and the palette's index does not pass 255
+-- the bytes that hold the seven indexes have no bit that their index registers do not keep, and the palette's index does not pass
+-- 255
 record Within (c : Chip) : Type 0 where
   groups : (g : Group) → fits g (indexByte g (c .indexes)) ≡ true
   colours : c .loading .index < 0x100
@@ -163,16 +164,16 @@ unfolding writableNow leftOpen rowOf CR
 CR07-bit-4-always true = refl
 CR07-bit-4-always false = refl
 
--- a data port's write and three bytes to PALDATA, in a reached state with open ports: the register reads the write rule's byte, the
--- entry holds the colour by the mode
+-- a data port's write and three bytes to PALDATA, in a reached state with open ports: the register reads the write rule's byte,
+-- the entry holds the colour by the mode
 module _ {first second : ℕ} {c : Chip} (r : Reach first second c) (free : portsOpen (named c) ≡ true) where
-  pub data-written : (g : Group) (p v : ℕ) → target (colour (named c)) true p ≡ Data g
+  pub data-written : (g : Group) (p v : ℕ) → target (picks3Dx (named c)) true p ≡ Data g
       → register g (named (portWritten c p v .chip)) (indexOf g (c .indexes))
       ≡ written (register g (named c) (indexOf g (c .indexes))) v (writableAt g (named c) (indexOf g (c .indexes)))
   data-written g p v leads = rw (write-data c p free g v leads) (received-same g (named c) (indexOf g (c .indexes)) v (reach-has-current r g))
 
   -- CR07 bit 4 can always be written, whatever CR11 holds
-  pub CR07-bit-4-written : (p v : ℕ) → target (colour (named c)) true p ≡ Data Cr → indexOf Cr (c .indexes) ≡ 0x07
+  pub CR07-bit-4-written : (p v : ℕ) → target (picks3Dx (named c)) true p ≡ Data Cr → indexOf Cr (c .indexes) ≡ 0x07
       → bit 4 (register Cr (named (portWritten c p v .chip)) 0x07) ≡ bit 4 v
   CR07-bit-4-written p v leads at =
       rw (write-data c p free Cr v leads, at)

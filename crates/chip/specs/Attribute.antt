@@ -1,6 +1,6 @@
--- Port 3C0h, which takes the attribute index and the attribute data by turns. Document 02, P1, and chapter 12 of the databook: a write
--- is of the index when the turn is the index's, and then of data, and each write passes the turn. The index keeps six bits: the low five
--- name a register, and bit 5 says that there is a picture, which is kept among what has a name. Bits 6 and 7 read 0.
+-- Port 3C0h, which takes the attribute index and the attribute data by turns. Document 02, P1, and chapter 12 of the databook: a
+-- write is of the index when the turn is the index's, and then of data, and each write passes the turn. The index keeps six bits:
+-- the low five name a register, and bit 5 says that there is a picture, which is kept among what has a name. Bits 6 and 7 read 0.
 -- Reading input status 1 returns the turn to the index; reading 3C0h or 3C1h leaves it. XR09 does nothing here.
 use Prim.Native.Nat.{ℕ, _+_}
 use mathlib.Core.Bool.{true, false, cond}

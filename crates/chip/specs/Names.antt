@@ -56,8 +56,8 @@ unfoldable pub portsOpen : Named → Bool
 portsOpen n = isSet 1 (register Xr n 0x70)
 
 -- MSR bit 0 picks the CR pair: 3D4h and 3D5h if it is 1
-unfoldable pub colour : Named → Bool
-colour n = isSet 0 (register Msr n 0x00)
+unfoldable pub picks3Dx : Named → Bool
+picks3Dx n = isSet 0 (register Msr n 0x00)
 
 -- XR80 bit 7 picks the palette's mode: eight-bit if it is 1
 unfoldable pub eightBit : Named → Bool

@@ -30,7 +30,7 @@ unfoldable pub coloured : Named → ℕ → ℕ → ℕ → ℕ → Named
 coloured n e r g b =
     withPalette n (set (n .palette) e (rgb (byMode (eightBit n) r) (byMode (eightBit n) g) (byMode (eightBit n) b)))
 
--- the component of an entry at a position: 2 is blue, 1 green, and any other red
+-- the component of an entry at a position: 2 is blue, 1 green, 0 red; a position outside the three counts as red (HOUSE)
 abbrev pub component : Rgb → ℕ → ℕ
 component e position = cond (eqb position 2) (e .blue) (cond (eqb position 1) (e .green) (e .red))
 
@@ -65,7 +65,7 @@ palstate l = cond (l .reading) 0x03 0x00
 abbrev pub paldata : Named → Loading → ℕ
 paldata n l = byMode (eightBit n) (component (entry n (l .index)) (l .position))
 
--- a component as it is shown: four times (stored modulo 64) in six-bit mode, else the stored byte
+-- a component as it is shown: four times (stored modulo 64) in six-bit mode, else the stored byte (HOUSE)
 abbrev pub bright : Bool → ℕ → ℕ
 bright eight v = cond eight v (v % 64 * 4)
 

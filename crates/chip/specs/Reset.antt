@@ -1,9 +1,10 @@
 -- The state after a reset, which lends two pin bytes. Document 01, "Registers" and "Palette": XR70 is the first pin byte with bit
 -- 0 made 1, XR71 is the second, XR08 bit 1 shows pin CFG1, which is XR70 bit 1; the palette's entries, its index and the held
--- bytes are 0; the position is red, and the write index counts as written last. The indexes are 0: of CR, SR, GR and XR the
--- databook says so where it has their index registers (chapters 9, 10, 11 and 14), and for FR and MR, whose index registers have
--- no page, it is document 01's rule that a reset bit that is not given is 0. Document 02, P1: the turn of 3C0h is the index's; chapter 12
--- gives the attribute index no reset, so all of it is 0, and there is no picture.
+-- bytes are 0 and the position is red (HOUSE), and the write index counts as written last (HOUSE). The indexes are 0: of CR, SR,
+-- GR and XR the databook says so where it has their index registers (chapters 9, 10, 11 and 14), and for FR and MR, whose index
+-- registers have no page, it is document 01's rule that a reset bit that is not given is 0 (HOUSE). Document 02, P1: the turn of
+-- 3C0h is the index's; chapter 12 gives the attribute index no reset, so all of it is 0 by the same rule (HOUSE), and there is no
+-- picture.
 use Prim.Native.Nat.{ℕ}
 use mathlib.Core.Bool.{false, cond}
 use lib.Dec.{eqb}

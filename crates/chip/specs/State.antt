@@ -1,6 +1,6 @@
--- The state in two parts: what has a name (registers and colours, and bit 5 of the attribute index, which decides whether there is a
--- picture), and the rest (the seven indexes, the turn of 3C0h, the palette's loading state). Document 01, "Ports": the chip state;
--- document 02, P1: what the attribute registers add. Every access is said as a change of these parts.
+-- The state in two parts: what has a name (registers and colours, and bit 5 of the attribute index, which decides whether there
+-- is a picture), and the rest (the seven indexes, the turn of 3C0h, the palette's loading state). Document 01, "Ports": the chip
+-- state; document 02, P1: what the attribute registers add. Every access is said as a change of these parts.
 use Prim.Native.Nat.{ℕ}
 use mathlib.Core.Bool.{Bool, cond}
 use mathlib.Core.List.{List}
@@ -113,8 +113,8 @@ withIndexByte g x b = record {
   turn = x .turn;
 }
 
--- document 02, P5: an index register keeps the bits that it has. So a group's index is those bits of its byte (in a reached state the byte
--- has no others: law `reach-kept`), and those of what is written stay
+-- document 02, P5: an index register keeps the bits that it has. So a group's index is those bits of its byte (in a reached state
+-- the byte has no others: law `reach-kept`), and those of what is written stay
 abbrev pub indexOf : Group → Indexes → ℕ
 indexOf g x = indexKept g (indexByte g x)
 

@@ -3,7 +3,7 @@
 ghost use mathlib.Core.Bool.{true, false};
 ghost use mathlib.Core.Path.{_≡_};
 ghost use Rattle.chip.specs.State.{named, join, indexByte, indexOf, withIndex};
-ghost use Rattle.chip.specs.Access.{numberOf, accessNumber, portWritten, portRead};
+ghost use Rattle.chip.specs.Access.{answerNumber, accessTable, writeTo, readFrom, portWritten, portRead};
 use crate::Chip;
 use chip_ports::Target;
 use chip_ports::leads_to;
@@ -32,7 +32,7 @@ pub struct Seen {
 
 // Document 01's number of an answer.
 pub fn number(a: Answer) -> u8
-    ensures { λ r. ⌜ r ≡ numberOf a ⌝ }
+    ensures { λ r. ⌜ r ≡ answerNumber a ⌝ }
 {
     match a {
         Answer::Done => 0,
@@ -85,18 +85,11 @@ impl Chip {
         self
     }
 
-    // A port write.
-    pub fn write(self, port: u16, v: u8) -> Wrote
-        ensures { λ r. ⌜ r ≡ portWritten self port v ⌝ }
-        ensures { λ r. ⌜ numberOf (r .answer) ≡ accessNumber true self port ⌝ }
+    // A byte written where a port leads.
+    fn write_to(self, t: Target, v: u8) -> Wrote
+        ensures { λ r. ⌜ r ≡ writeTo t self v ⌝ }
     {
-        if !self.is_open() {
-            return Wrote {
-                answer: Answer::Closed,
-                chip: self,
-            };
-        }
-        match leads_to(self.is_colour(), true, port) {
+        match t {
             Target::Index(g) => Wrote {
                 answer: Answer::Done,
                 chip: self.with_index(g, v),
@@ -122,7 +115,7 @@ impl Chip {
                 chip: self.write_attribute(v),
             },
             Target::Status => Wrote {
-                answer: Answer::Done,
+                answer: Answer::Unlisted,
                 chip: self,
             },
             Target::NotPicked => Wrote {
@@ -136,19 +129,25 @@ impl Chip {
         }
     }
 
-    // A port read.
-    pub fn read(self, port: u16) -> Seen
-        ensures { λ r. ⌜ r ≡ portRead self port ⌝ }
-        ensures { λ r. ⌜ numberOf (r .answer) ≡ accessNumber false self port ⌝ }
+    // A port write.
+    pub fn write(self, port: u16, v: u8) -> Wrote
+        ensures { λ r. ⌜ r ≡ portWritten self port v ⌝ }
+        ensures { λ r. ⌜ answerNumber (r .answer) ≡ accessTable true self port ⌝ }
     {
         if !self.is_open() {
-            return Seen {
+            return Wrote {
                 answer: Answer::Closed,
-                value: 0xFF,
                 chip: self,
             };
         }
-        match leads_to(self.is_colour(), false, port) {
+        self.write_to(leads_to(self.picks_3dx(), true, port), v)
+    }
+
+    // A byte read from where a port leads.
+    fn read_from(self, t: Target) -> Seen
+        ensures { λ r. ⌜ r ≡ readFrom t self ⌝ }
+    {
+        match t {
             Target::Index(g) => Seen {
                 answer: Answer::Done,
                 value: self.index(g),
@@ -172,7 +171,7 @@ impl Chip {
             Target::Paldata => Seen {
                 answer: Answer::Done,
                 value: self.paldata(),
-                chip: self.with_loading(self.loading.step()),
+                chip: self.with_loading(self.loading.move_on()),
             },
             Target::Attribute => Seen {
                 answer: Answer::Done,
@@ -195,5 +194,20 @@ impl Chip {
                 chip: self,
             },
         }
+    }
+
+    // A port read.
+    pub fn read(self, port: u16) -> Seen
+        ensures { λ r. ⌜ r ≡ portRead self port ⌝ }
+        ensures { λ r. ⌜ answerNumber (r .answer) ≡ accessTable false self port ⌝ }
+    {
+        if !self.is_open() {
+            return Seen {
+                answer: Answer::Closed,
+                value: 0xFF,
+                chip: self,
+            };
+        }
+        self.read_from(leads_to(self.picks_3dx(), false, port))
     }
 }

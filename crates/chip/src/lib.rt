@@ -5,7 +5,7 @@
 ghost use mathlib.Core.Path.{_≡_};
 ghost use Rattle.lists.specs.Tab.{tab};
 ghost use Rattle.chip.specs.State.{named, withNamed};
-ghost use Rattle.chip.specs.Names.{register, replaced, locked as lockedOf, received, portsOpen, colour as colourOf, eightBit};
+ghost use Rattle.chip.specs.Names.{register, replaced, locked as lockedOf, received, portsOpen, picks3Dx, eightBit};
 ghost use Rattle.chip.specs.Reset.{resetByte, reset as resetOf};
 use chip_registers::Group;
 use chip_registers::locked_by;
@@ -38,7 +38,7 @@ pub struct Indexes {
 }
 
 // The palette's index and loading state: the position (0 red, 1 green, 2 blue; any other counts as
-// red), the bytes held at red and at green, and whether the read index was written last (PALSTATE).
+// red, HOUSE), the bytes held at red and at green, and whether the read index was written last (PALSTATE).
 pub struct Loading {
     pub index: u8,
     pub position: u8,
@@ -226,8 +226,8 @@ impl Chip {
     }
 
     // Whether MSR bit 0 picks the CR pair at 3D4h and 3D5h.
-    pub fn is_colour(self) -> bool
-        ensures { λ r. ⌜ r ≡ colourOf (named self) ⌝ }
+    pub fn picks_3dx(self) -> bool
+        ensures { λ r. ⌜ r ≡ picks3Dx (named self) ⌝ }
     {
         self.get(Group::Msr, 0x00) % 2 == 1
     }

@@ -65,7 +65,7 @@ impl Loading {
     }
 
     // The position moves on, and after blue the index.
-    pub fn step(mut self) -> Loading
+    pub fn move_on(mut self) -> Loading
         ensures { λ r. ⌜ r ≡ moved self ⌝ }
     {
         let p = self.position;
@@ -123,7 +123,7 @@ impl Chip {
         ensures { λ r. ⌜ r ≡ join (loaded (named self) (self .loading) v) (self .indexes) (moved (held (self .loading) v)) ⌝ }
     {
         let l = self.loading;
-        let next = l.hold(v).step();
+        let next = l.hold(v).move_on();
         let p = l.position;
         if p == 2 {
             return self.put_colour(l.index, l.red, l.green, v)

@@ -1,6 +1,6 @@
--- Document 02, P2: steps that can do nothing. A step that is refused with 11 would change no register and no colour, from any state
--- (`idle-keeps`, `idle-keeps-colours`); and a register that a SET may name can be changed: where its lock is off, FFh and 00h leave it
--- different bytes (`useful-changes`). So the writable mask is what tells such steps from others.
+-- Document 02, P2: steps that can do nothing. A step that is refused with 11 would change no register and no colour, from any
+-- state (`idle-keeps`, `idle-keeps-colours`); and a register that a SET may name can be changed: where its lock is off, FFh and
+-- 00h leave it different bytes (`useful-changes`). So the writable mask is what tells such steps from others.
 use Prim.Native.Nat.{ℕ, _<_}
 use native.Mathlib.Omega.{arith}
 use mathlib.Core.Bool.{Bool, true, false, cond}

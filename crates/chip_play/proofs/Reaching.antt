@@ -1,6 +1,6 @@
--- The facts of each group that the argument rests on: where its ports lead, that a selected index is the one that its data port works
--- at, and that no write by name closes the ports. A new group adds its facts here; the argument in StepsSent goes by the way
--- a group is reached and stays.
+-- The facts of each group that the argument rests on: where its ports lead, that a selected index is the one that its data port
+-- works at, and that no write by name closes the ports. A new group adds its facts here; the argument in StepsSent goes by the
+-- way a group is reached and stays.
 use Prim.Native.Nat.{ℕ, zero, suc, _<_}
 use native.Mathlib.Omega.{arith}
 use mathlib.Core.Bool.{Bool, true, false}
@@ -18,7 +18,7 @@ use Rattle.chip_registers.specs.declared.Group.the-variants.{Cr, Xr, Ar}
 use Rattle.chip_ports.specs.Ports.{ports, target}
 use Rattle.chip_ports.specs.declared.Target.the-variants.{Index, Data, Attribute, NotPicked}
 use Rattle.chip.specs.State.{Named, indexOf, withIndex}
-use Rattle.chip.specs.Names.{locked, received, portsOpen, colour}
+use Rattle.chip.specs.Names.{locked, received, portsOpen, picks3Dx}
 use Rattle.chip.specs.Palette.{coloured}
 use Rattle.chip.proofs.IndexLaws.{index-same}
 use Rattle.chip.proofs.NameLaws.{received-keeps-bit, coloured-keeps-register}
@@ -38,7 +38,7 @@ Off b x p = (target b true x ≡ NotPicked) × (target b true p ≡ NotPicked) �
 
 -- a write to the group leaves MSR bit 0
 abbrev pub Steady : Group → Type 0
-Steady g = (n : Named) (i v : ℕ) → colour (received g n i v) ≡ colour n
+Steady g = (n : Named) (i v : ℕ) → picks3Dx (received g n i v) ≡ picks3Dx n
 
 -- the way of a group leads to it
 abbrev pub Leads : Bool → Group → ℕ → Ways → Type 0
@@ -50,7 +50,7 @@ Leads b g i (Turns p r) = (g ≡ Ar) × (target b true p ≡ Attribute) × (targ
 Leads b g i Nowhere = ⊥
 
 CR-steady : Steady Cr
-unfolding colour received
+unfolding picks3Dx received
 CR-steady n i v = refl
 
 false-true : false ≡ true → ⊥

@@ -1,5 +1,5 @@
--- What a list of commands does to everything that has a name, whatever the loading state and the accumulator are. The relation has a
--- condition on the indexes before and after, so that a list may count on an index that an earlier one left; it composes by
+-- What a list of commands does to everything that has a name, whatever the loading state and the accumulator are. The relation
+-- has a condition on the indexes before and after, so that a list may count on an index that an earlier one left; it composes by
 -- append. Under it, one law for each kind of command at the head of a list.
 use Prim.Native.Nat.{ℕ}
 use mathlib.Core.Bool.{Bool, true, false}
@@ -10,7 +10,7 @@ use Rattle.chip_registers.specs.declared.Group.{Group}
 use Rattle.chip_ports.specs.Ports.{target}
 use Rattle.chip_ports.specs.declared.Target.the-variants.{Index, Data, NotPicked}
 use Rattle.chip.specs.State.{Named, join, indexOf, withIndex}
-use Rattle.chip.specs.Names.{register, received, portsOpen, colour}
+use Rattle.chip.specs.Names.{register, received, portsOpen, picks3Dx}
 use Rattle.chip.specs.Access.{portWritten, portRead}
 use Rattle.chip.specs.declared.Chip.{Chip}
 use Rattle.chip.specs.declared.Indexes.{Indexes}
@@ -60,7 +60,7 @@ pub sends-any : {P Q : Indexes → Type 0} {n m : Named} {cs : List Command} →
 sends-any s = record { runs = λ x l a p. let (x′, l′, a′, h, q) = s .runs x l a p in (x′, l′, a′, h, tt) }
 
 -- ---- one command at the head of a list
-module _ (n : Named) (x : Indexes) (l : Loading) (a : ℕ) (rs : List CommandRead) (free : portsOpen n ≡ true) (b : Bool) (picks : colour n ≡ b) (p : ℕ) where
+module _ (n : Named) (x : Indexes) (l : Loading) (a : ℕ) (rs : List CommandRead) (free : portsOpen n ≡ true) (b : Bool) (picks : picks3Dx n ≡ b) (p : ℕ) where
   select : (g : Group) (i : ℕ) → target b true p ≡ Index g
       → carry (join n x l) a (Known (Out p i) ∷ rs) ≡ carry (join n (withIndex g x i) l) a rs
   unfolding carry one done portWritten
@@ -102,7 +102,7 @@ unfolding carry one done
 merged c a k s rs = refl
 
 -- ---- what ports do in the relation
-module _ {P : Indexes → Type 0} (n : Named) (free : portsOpen n ≡ true) (b : Bool) (picks : colour n ≡ b) (g : Group) (i : ℕ) where
+module _ {P : Indexes → Type 0} (n : Named) (free : portsOpen n ≡ true) (b : Bool) (picks : picks3Dx n ≡ b) (g : Group) (i : ℕ) where
   -- an index port that leads to the group
   pub selects : {Q : Indexes → Type 0} → ((x : Indexes) → P x → Q (withIndex g x i)) → (p : ℕ) → target b true p ≡ Index g → Sends P n (Out p i ∷ []) n Q
   selects f p hp = record { runs = λ x l a h. (withIndex g x i, l, a, select n x l a [] free b picks p g i hp ∙ ended _ _, f x h) }
@@ -125,7 +125,7 @@ module _ {P : Indexes → Type 0} (n : Named) (free : portsOpen n ≡ true) (b :
     }
 
 -- ports of the pair that is not picked
-module _ {P : Indexes → Type 0} (n : Named) (free : portsOpen n ≡ true) (b : Bool) (picks : colour n ≡ b) (p : ℕ) (hp : target b true p ≡ NotPicked) where
+module _ {P : Indexes → Type 0} (n : Named) (free : portsOpen n ≡ true) (b : Bool) (picks : picks3Dx n ≡ b) (p : ℕ) (hp : target b true p ≡ NotPicked) where
   pub passes : (v : ℕ) → Sends P n (Out p v ∷ []) n P
   passes v = record { runs = λ x l a h. (x, l, a, idle n x l a [] free b picks p v hp ∙ ended _ _, h) }
 

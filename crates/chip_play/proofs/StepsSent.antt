@@ -8,7 +8,7 @@ use Rattle.lists.proofs.Tests.{and-both}
 use Rattle.chip_registers.specs.declared.Group.{Group}
 use Rattle.chip_ports.specs.Ports.{ports, target}
 use Rattle.chip.specs.State.{Named, join}
-use Rattle.chip.specs.Names.{register, received, portsOpen, colour}
+use Rattle.chip.specs.Names.{register, received, portsOpen, picks3Dx}
 use Rattle.chip.specs.Palette.{coloured, aimed, held, moved, loaded}
 use Rattle.chip.specs.Access.{portWritten}
 use Rattle.chip.specs.declared.Indexes.{Indexes}
@@ -30,7 +30,7 @@ use Rattle.chip_play.proofs.Turning.{aims, gives, gives-change}
 use Rattle.chip_play.proofs.Reaching.{Leads, leads, open-received}
 
 module _ (n : Named) (free : portsOpen n ≡ true) (g : Group) (i : ℕ) where
-  set-sent : (v : ℕ) (w : Ways) (b : Bool) → colour n ≡ b → Leads b g i w → Sends Any n (setBy w i v) (received g n i v) (At g i)
+  set-sent : (v : ℕ) (w : Ways) (b : Bool) → picks3Dx n ≡ b → Leads b g i w → Sends Any n (setBy w i v) (received g n i v) (At g i)
   set-sent v (Pair x p) b picks (on, kept) =
       sends-append (selects n free b picks g i (λ y _. kept y) x (on .0)) (stores n free b picks g i (λ y h. h) p v (on .1))
   set-sent v (Pairs x p y q) true picks (off, on, steady, kept) =
@@ -46,7 +46,7 @@ module _ (n : Named) (free : portsOpen n ≡ true) (g : Group) (i : ℕ) where
       rw is (sends-append (aims n free b picks p writes i fits index) (gives n free b picks p writes i fits v))
   set-sent v Nowhere b picks none = absurd none
 
-  field-sent : (k s : ℕ) (w : Ways) (b : Bool) → colour n ≡ b → Leads b g i w
+  field-sent : (k s : ℕ) (w : Ways) (b : Bool) → picks3Dx n ≡ b → Leads b g i w
       → Sends Any n (fieldBy w i k s) (received g n i (bitOr (bitAnd (register g n i) k) s)) (At g i)
   field-sent k s (Pair x p) b picks (on, kept) =
       sends-append (selects n free b picks g i (λ y _. kept y) x (on .0)) (changes n free b picks g i (λ y h. h) p p k s (on .1) (on .2))
@@ -88,7 +88,7 @@ colour-sent n free e r g b = record {
 
 pub step-sent : (s : Step) (n : Named) → legal s ≡ true → portsOpen n ≡ true → Sends Any n (expanded s) (applied s n) Any
 unfolding expanded applied legal
-step-sent (Set group i v) n lawful free = sends-any (set-sent n free (groupAt group) i v (ways group) (colour n) refl (leads (colour n) group i lawful))
+step-sent (Set group i v) n lawful free = sends-any (set-sent n free (groupAt group) i v (ways group) (picks3Dx n) refl (leads (picks3Dx n) group i lawful))
 step-sent (Field group i v m) n lawful free =
-    sends-any (field-sent n free (groupAt group) i (0xFF - m) v (ways group) (colour n) refl (leads (colour n) group i (and-both (names group i) (within v m) lawful .0)))
+    sends-any (field-sent n free (groupAt group) i (0xFF - m) v (ways group) (picks3Dx n) refl (leads (picks3Dx n) group i (and-both (names group i) (within v m) lawful .0)))
 step-sent (Colour e r g b) n lawful free = colour-sent n free e r g b

@@ -1,6 +1,6 @@
--- The port that takes index and data by turns: what the five commands that write its index do, from any state, and then a byte or a
--- change. Reading both status ports returns the turn whichever is picked; the index is written with bit 5 as it was, so the picture
--- stays. Document 02, P1.
+-- The port that takes index and data by turns: what the five commands that write its index do, from any state, and then a byte or
+-- a change. Reading both status ports returns the turn whichever is picked; the index is written with bit 5 as it was, so the
+-- picture stays. Document 02, P1.
 use Prim.Native.Nat.{ℕ, _+_, _%_, _/_, _<_}
 use native.Mathlib.Nat.{add-comm}
 use native.Mathlib.Omega.{arith}
@@ -14,7 +14,7 @@ use Rattle.chip_registers.specs.declared.Group.the-variants.{Ar}
 use Rattle.chip_ports.specs.Ports.{ports, target}
 use Rattle.chip_ports.specs.declared.Target.the-variants.{Data, Attribute, Status}
 use Rattle.chip.specs.State.{Named, join, withTurn, indexOf, withIndex}
-use Rattle.chip.specs.Names.{register, received, portsOpen, colour}
+use Rattle.chip.specs.Names.{register, received, portsOpen, picks3Dx}
 use Rattle.chip.specs.Attribute.{attributeIndex, attributeAimed}
 use Rattle.chip.specs.Access.{portWritten, portRead}
 use Rattle.chip.specs.declared.Indexes.{Indexes}
@@ -46,7 +46,7 @@ kept-low true i = omega arith
 kept-low false i = omega arith
 
 -- ---- one command at the head of a list
-module _ (n : Named) (x : Indexes) (l : Loading) (a : ℕ) (rs : List CommandRead) (free : portsOpen n ≡ true) (b : Bool) (picks : colour n ≡ b) (p : ℕ) where
+module _ (n : Named) (x : Indexes) (l : Loading) (a : ℕ) (rs : List CommandRead) (free : portsOpen n ≡ true) (b : Bool) (picks : picks3Dx n ≡ b) (p : ℕ) where
   turn-back : target b false p ≡ Status → carry (join n x l) a (Known (In p) ∷ rs) ≡ carry (join n (withTurn x false) l) 0x00 rs
   unfolding carry one done portRead
   turn-back h = rw (free, picks, h)
@@ -75,13 +75,13 @@ AtData i x = At Ar i x × (x .turn ≡ true)
 
 module _ (n : Named) (free : portsOpen n ≡ true) where
   -- both status ports are read: the turn is the index's
-  both-read : (b : Bool) → colour n ≡ b → (x : Indexes) (l : Loading) (a : ℕ) (rs : List CommandRead)
+  both-read : (b : Bool) → picks3Dx n ≡ b → (x : Indexes) (l : Loading) (a : ℕ) (rs : List CommandRead)
       → carry (join n x l) a (Known (In 0x3BA) ∷ Known (In 0x3DA) ∷ rs) ≡ carry (join n (withTurn x false) l) (cond b 0x00 0xFF) rs
   unfolding target ports
   both-read true picks x l a rs = idle-in n x l a _ free true picks 0x3BA refl ∙ turn-back n x l _ rs free true picks 0x3DA refl
   both-read false picks x l a rs = turn-back n x l a _ free false picks 0x3BA refl ∙ idle-in n _ l _ rs free false picks 0x3DA refl
 
-  module _ (b : Bool) (picks : colour n ≡ b) (p : ℕ) (writes : target b true p ≡ Attribute) (i : ℕ) (fits : i < 32) where
+  module _ (b : Bool) (picks : picks3Dx n ≡ b) (p : ℕ) (writes : target b true p ≡ Attribute) (i : ℕ) (fits : i < 32) where
     -- the index is written, and the picture stays
     pub aims : target b false p ≡ Attribute → Sends Any n (turned p i) n (AtData i)
     unfolding indexKept

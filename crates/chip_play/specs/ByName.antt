@@ -1,6 +1,6 @@
 -- What steps say by name: each applied to the registers and colours by the named access of crate `chip` alone. There is no index
--- register and no port here. Document 01, "Scripts": SET, FIELD and COLOUR, protection and palette mode included; document 02, P1: what the
--- picture does to AR00 to AR0F holds by name too.
+-- register and no port here. Document 01, "Scripts": SET, FIELD and COLOUR, protection and palette mode included; document 02,
+-- P1: what the picture does to AR00 to AR0F holds by name too.
 use Prim.Native.Nat.{ℕ, _-_}
 use mathlib.Core.List.{List, [], _∷_}
 use lib.Bits.{bitAnd, bitOr}

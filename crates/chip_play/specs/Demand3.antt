@@ -1,8 +1,8 @@
--- Demand 3, to read, as document 02, P1, completes it: a script does what it says, from any state. The definitions under it are those that the contracts cite:
--- `checked` of the check, `commandsTo` of the translation, `ran` of the run, `Reach` of the chip, `appliedAll` of ByName.
--- The theorem that says it of every script and every reachable state is `demand-3`, in proofs/Demand3.
--- It is not had by a reader that hands out nothing, nor by a check that accepts nothing. The first n steps of an accepted file
--- are n, and their bytes are those at the file's places (proofs/Counted of crate `script_commands`); and for every list of 1 to 1,008
+-- Demand 3, to read, as document 02, P1, completes it: a script does what it says, from any state. The definitions under it are
+-- those that the contracts cite: `checked` of the check, `commandsTo` of the translation, `ran` of the run, `Reach` of the chip,
+-- `appliedAll` of ByName. The theorem that says it of every script and every reachable state is `demand-3`, in proofs/Demand3. It
+-- is not had by a reader that hands out nothing, nor by a check that accepts nothing. The first n steps of an accepted file are
+-- n, and their bytes are those at the file's places (proofs/Counted of crate `script_commands`); and for every list of 1 to 1,008
 -- steps that pass there is an accepted file whose steps are that list, which is the demand's own quantifier (proofs/Scripts):
 --     steps-counted : .. checked f ≡ Accepted m → (n : ℕ) → n ≤ m → length (stepsTo f n) ≡ n
 --     steps-stand : .. checked f ≡ Accepted m → (n : ℕ) → n ≤ m → sixes (stepsTo f n) ≡ placesTo f n
@@ -31,9 +31,10 @@ abbrev pub ranSteps : Chip → List ℕ → ℕ → ℕ → Ran
 ranSteps c file m n = ran c (bytesOfAll (commandsTo file m)) (begins file n)
 
 -- after the commands of the first n steps: all of them were carried out, none was refused, and everything that has a name,
--- every register of every group, MSR, PALMASK and all 256 colours, is what the n steps say by name. Bit 5 of the attribute index, which
--- decides whether there is a picture, is in `Named` too, and no step says anything of it: it is unchanged (`picture`). The six indexes, the
--- low five bits of the attribute index, the turn of 3C0h and the palette's loading state are not in `Named`: they may differ.
+-- every register of every group, MSR, PALMASK and all 256 colours, is what the n steps say by name. Bit 5 of the attribute index,
+-- which decides whether there is a picture, is in `Named` too, and no step says anything of it: it is unchanged (`picture`). The
+-- six indexes, the low five bits of the attribute index, the turn of 3C0h and the palette's loading state are not in `Named`:
+-- they may differ.
 pub record AfterSteps (c : Chip) (file : List ℕ) (m n : ℕ) : Type 0 where
   pub count : ranSteps c file m n .count ≡ begins file n
   pub unrefused : ofEnding (ranSteps c file m n .ending) ≡ returned 0 0

@@ -26,7 +26,7 @@ line p w r = record { port = p; written = w; read = r }
 
 -- document 01's table, with P1's ports, in the order of their numbers: MSR bit 0 = 1 picks 3Dx, and 0 picks 3Bx
 abbrev pub documented : Bool → List Line
-documented colour =
+documented picks3Dx =
     line 0x3B4 (mono (Index Cr)) (mono (Index Cr))
     ∷ line 0x3B5 (mono (Data Cr)) (mono (Data Cr))
     ∷ line 0x3BA NotListed (mono Status)
@@ -54,10 +54,10 @@ documented colour =
     ∷ []
   where
     mono : Target → Target
-    mono t = cond colour NotPicked t
+    mono t = cond picks3Dx NotPicked t
 
     chosen : Target → Target
-    chosen t = cond colour t NotPicked
+    chosen t = cond picks3Dx t NotPicked
 
 -- a line in front of others, if it is listed in some direction
 abbrev keeping : Line → List Line → List Line
@@ -65,10 +65,10 @@ keeping l ls = cond (isListed (l .written) || isListed (l .read)) (l ∷ ls) ls
 
 -- the lines of the n ports from p on, as `target` has them
 abbrev pub linesFrom : Bool → ℕ → ℕ → List Line
-linesFrom colour p zero = []
-linesFrom colour p (suc n) = keeping (line p (target colour true p) (target colour false p)) (linesFrom colour (p + 1) n)
+linesFrom picks3Dx p zero = []
+linesFrom picks3Dx p (suc n) = keeping (line p (target picks3Dx true p) (target picks3Dx false p)) (linesFrom picks3Dx (p + 1) n)
 
-pub ports-documented : (colour : Bool) → linesFrom colour 0x3B0 0x30 ≡ documented colour
+pub ports-documented : (picks3Dx : Bool) → linesFrom picks3Dx 0x3B0 0x30 ≡ documented picks3Dx
 unfolding target ports
 ports-documented true = refl
 ports-documented false = refl
@@ -102,10 +102,31 @@ leads-elsewhere t ks write (r ∷ rs) p all other =
     go true e here later = row (t (r .leads write)) refl (eqb-true p (r .number) e) here
     go false e here later = later
 
-pub target-elsewhere : (t : Target → Bool) (ks : List ℕ) (colour write : Bool) (p : ℕ) → holds t ks write (ports colour) ≡ true → has p ks ≡ false
-    → t (target colour write p) ≡ true
+pub target-elsewhere : (t : Target → Bool) (ks : List ℕ) (picks3Dx write : Bool) (p : ℕ) → holds t ks write (ports picks3Dx) ≡ true → has p ks ≡ false
+    → t (target picks3Dx write p) ≡ true
 unfolding target
-target-elsewhere t ks colour write p all other = leads-elsewhere t ks write (ports colour) p all other
+target-elsewhere t ks picks3Dx write p all other = leads-elsewhere t ks write (ports picks3Dx) p all other
+
+-- input status 1 is for reading only: no write leads to it
+abbrev notStatus : Target → Bool
+notStatus (Index g) = true
+notStatus (Data g) = true
+notStatus ReadIndex = true
+notStatus WriteIndex = true
+notStatus Paldata = true
+notStatus Attribute = true
+notStatus Status = false
+notStatus NotPicked = true
+notStatus NotListed = true
+
+never-written : (picks3Dx : Bool) → holds notStatus [] true (ports picks3Dx) ≡ true
+unfolding ports
+never-written true = refl
+never-written false = refl
+
+pub status-read-only : (picks3Dx : Bool) (p : ℕ) → target picks3Dx true p ≡ Status → ⊥
+status-read-only picks3Dx p leads =
+    true≢false (sym (target-elsewhere notStatus [] picks3Dx true p (never-written picks3Dx) refl) ∙ ap notStatus leads)
 
 -- what holds at each of these numbers holds at a number that is among them
 abbrev at-each : (ℕ → Bool) → List ℕ → Bool
@@ -121,23 +142,23 @@ among t (k ∷ ks) p all h = let (here, others) = and-both (t k) (at-each t ks) 
     go false e here later u = later u
 
 -- a port is listed for a direction exactly where the table lists it, whichever pair is picked
-listed-reached : (colour write : Bool) → at-each (λ q. isListed (target colour write q)) (listedPorts write) ≡ true
+listed-reached : (picks3Dx write : Bool) → at-each (λ q. isListed (target picks3Dx write q)) (listedPorts write) ≡ true
 unfolding target ports
 listed-reached true true = refl
 listed-reached true false = refl
 listed-reached false true = refl
 listed-reached false false = refl
 
-no-other : (colour write : Bool) → holds (λ t. not (isListed t)) (listedPorts write) write (ports colour) ≡ true
+no-other : (picks3Dx write : Bool) → holds (λ t. not (isListed t)) (listedPorts write) write (ports picks3Dx) ≡ true
 unfolding ports
 no-other true true = refl
 no-other true false = refl
 no-other false true = refl
 no-other false false = refl
 
-pub listed-exactly : (colour write : Bool) (p : ℕ) → isListed (target colour write p) ≡ has p (listedPorts write)
-listed-exactly colour write p = go (has p (listedPorts write)) refl
+pub listed-exactly : (picks3Dx write : Bool) (p : ℕ) → isListed (target picks3Dx write p) ≡ has p (listedPorts write)
+listed-exactly picks3Dx write p = go (has p (listedPorts write)) refl
   where
-    go : (z : Bool) → has p (listedPorts write) ≡ z → isListed (target colour write p) ≡ z
-    go true e = among (λ q. isListed (target colour write q)) (listedPorts write) p (listed-reached colour write) e
-    go false e = not-true _ (target-elsewhere (λ t. not (isListed t)) (listedPorts write) colour write p (no-other colour write) e)
+    go : (z : Bool) → has p (listedPorts write) ≡ z → isListed (target picks3Dx write p) ≡ z
+    go true e = among (λ q. isListed (target picks3Dx write q)) (listedPorts write) p (listed-reached picks3Dx write) e
+    go false e = not-true _ (target-elsewhere (λ t. not (isListed t)) (listedPorts write) picks3Dx write p (no-other picks3Dx write) e)

@@ -23,17 +23,18 @@ writeOnly p t = record { number = p; leads = λ write. cond write t NotListed }
 abbrev pub readOnly : ℕ → Target → Port
 readOnly p t = record { number = p; leads = λ write. cond write NotListed t }
 
--- a port that leads somewhere while MSR bit 0 picks it
+-- a port that leads somewhere while MSR bit 0 picks it. One that is not picked is listed all the same: it answers 0 (HOUSE of the
+-- CR pair; document 02, P1, of the status port)
 abbrev pub while : Bool → Target → Target
 while picked t = cond picked t NotPicked
 
--- the ports, MSR bit 0 being `colour`
+-- the ports, MSR bit 0 being `picks3Dx`
 unfoldable pub ports : Bool → List Port
-ports colour =
-    both 0x3B4 (while (not colour) (Index Cr))
-    ∷ both 0x3B5 (while (not colour) (Data Cr))
-    ∷ both 0x3D4 (while colour (Index Cr))
-    ∷ both 0x3D5 (while colour (Data Cr))
+ports picks3Dx =
+    both 0x3B4 (while (not picks3Dx) (Index Cr))
+    ∷ both 0x3B5 (while (not picks3Dx) (Data Cr))
+    ∷ both 0x3D4 (while picks3Dx (Index Cr))
+    ∷ both 0x3D5 (while picks3Dx (Data Cr))
     ∷ both 0x3C4 (Index Sr)
     ∷ both 0x3C5 (Data Sr)
     ∷ both 0x3CE (Index Gr)
@@ -52,8 +53,8 @@ ports colour =
     ∷ both 0x3C9 Paldata
     ∷ both 0x3C0 Attribute
     ∷ readOnly 0x3C1 (Data Ar)
-    ∷ readOnly 0x3BA (while (not colour) Status)
-    ∷ readOnly 0x3DA (while colour Status)
+    ∷ readOnly 0x3BA (while (not picks3Dx) Status)
+    ∷ readOnly 0x3DA (while picks3Dx Status)
     ∷ []
 
 abbrev pub targetIn : List Port → Bool → ℕ → Target
@@ -62,7 +63,7 @@ targetIn (r ∷ rs) write p = cond (eqb p (r .number)) (r .leads write) (targetI
 
 -- where a port leads when it is written or read
 unfoldable pub target : Bool → Bool → ℕ → Target
-target colour write p = targetIn (ports colour) write p
+target picks3Dx write p = targetIn (ports picks3Dx) write p
 
 -- whether a port is listed for a direction, by where it leads
 abbrev pub isListed : Target → Bool

@@ -27,24 +27,24 @@ pub enum Target {
     NotListed,
 }
 
-// The target of a port: `colour` is MSR bit 0, `write` the direction.
-pub fn leads_to(colour: bool, write: bool, port: u16) -> Target
-    ensures { λ r. ⌜ r ≡ target colour write port ⌝ }
+// The target of a port: `picks3dx` is MSR bit 0, which picks the CR pair and the status port at 3Dx; `write` is the direction.
+pub fn leads_to(picks3dx: bool, write: bool, port: u16) -> Target
+    ensures { λ r. ⌜ r ≡ target picks3dx write port ⌝ }
 {
     match port {
-        0x3B4 => if colour {
+        0x3B4 => if picks3dx {
             Target::NotPicked
         } else {
             Target::Index(Group::Cr)
         },
-        0x3B5 => if colour {
+        0x3B5 => if picks3dx {
             Target::NotPicked
         } else {
             Target::Data(Group::Cr)
         },
         0x3BA => if write {
             Target::NotListed
-        } else if colour {
+        } else if picks3dx {
             Target::NotPicked
         } else {
             Target::Status
@@ -77,12 +77,12 @@ pub fn leads_to(colour: bool, write: bool, port: u16) -> Target
         0x3D1 => Target::Data(Group::Fr),
         0x3D2 => Target::Index(Group::Mr),
         0x3D3 => Target::Data(Group::Mr),
-        0x3D4 => if colour {
+        0x3D4 => if picks3dx {
             Target::Index(Group::Cr)
         } else {
             Target::NotPicked
         },
-        0x3D5 => if colour {
+        0x3D5 => if picks3dx {
             Target::Data(Group::Cr)
         } else {
             Target::NotPicked
@@ -91,7 +91,7 @@ pub fn leads_to(colour: bool, write: bool, port: u16) -> Target
         0x3D7 => Target::Data(Group::Xr),
         0x3DA => if write {
             Target::NotListed
-        } else if colour {
+        } else if picks3dx {
             Target::Status
         } else {
             Target::NotPicked

@@ -10,7 +10,7 @@ use mathlib.Core.List.{List, [], _∷_}
 use lib.Dec.{eqb, ltb}
 use lib.ListN.{length, take}
 use borrow.Author.Tests.{lt-ltb, le-ltb}
-use Rattle.chip.specs.Access.{numberOf as answerNumber, portWritten, portRead}
+use Rattle.chip.specs.Access.{answerNumber, portWritten, portRead}
 use Rattle.chip.specs.declared.Chip.{Chip}
 use Rattle.chip.specs.declared.access.Answer.{Answer}
 use Rattle.chip.specs.declared.access.Answer.the-variants.{Done as Granted, Unlisted as NoPort, Closed as Shut}
@@ -20,7 +20,7 @@ use Rattle.script_commands.specs.declared.Command.the-variants.{Out, In, Merge,
 use Rattle.script_commands.specs.declared.CommandRead.{CommandRead}
 use Rattle.script_commands.specs.declared.CommandRead.the-variants.{Known, Unknown}
 use Rattle.lists.specs.Numbers.{Returned, returned}
-use Rattle.chip_run.specs.Run.{answered, done, one, following, ranTo, runFrom, carry, more, carried, reads, ran, least, numberOf, verdictNumber, ofEnding, commandTable, stopTable, runTable}
+use Rattle.chip_run.specs.Run.{answered, done, one, following, ranTo, runFrom, carry, more, carried, reads, ran, least, reasonNumber, verdictNumber, ofEnding, commandTable, stopTable, runTable}
 use Rattle.chip_run.specs.declared.Did.{Did}
 use Rattle.chip_run.specs.declared.Ran.{Ran}
 use Rattle.chip_run.specs.declared.Reason.{Reason}
@@ -31,7 +31,7 @@ use Rattle.chip_run.specs.declared.Ending.the-variants.{Stopped}
 use Rattle.chip_run.proofs.RunLaws.{count-least, length-reads}
 
 -- ---- one command
-answered-number : (a : Answer) → verdictNumber (answered a) ≡ answerNumber a
+pub answered-number : (a : Answer) → verdictNumber (answered a) ≡ answerNumber a
 answered-number Granted = refl
 answered-number NoPort = refl
 answered-number Shut = refl
@@ -81,11 +81,11 @@ table-next c acc k r rs n most e = go (decLt n most)
 
 -- .. and at one that is refused
 table-there : (c : Chip) (acc k : ℕ) (r : CommandRead) (rs : List CommandRead) (most : ℕ) (why : Reason) → one c acc r .verdict ≡ Bad why
-    → returned (numberOf why) k ≡ tableFrom c acc k (r ∷ rs) 0 (suc most)
+    → returned (reasonNumber why) k ≡ tableFrom c acc k (r ∷ rs) 0 (suc most)
 table-there c acc k r rs most why e =
     let h : 0 < suc most = omega arith in
     let z : k + 0 ≡ k = omega arith in
-    let number : numberOf why ≡ commandTable c r = ap verdictNumber (sym e) ∙ one-number c acc r in
+    let number : reasonNumber why ≡ commandTable c r = ap verdictNumber (sym e) ∙ one-number c acc r in
     rw (lt-ltb _ _ h, carry-none c acc, z, number)
 
 ending-number : (rs : List CommandRead) (c : Chip) (acc k left : ℕ)

@@ -1,14 +1,14 @@
--- The run of commands. Document 01, "Commands": the accumulator starts at 0; for each command 10 comes before 2 and 2 before 1, and
--- MERGE is no port access; a limit met at a bad command counts first; with every command done it is the end. A stopped run
--- hands back the state that its earlier commands left. Its laws are in proofs/RunLaws; that its number and place are those of
--- the table below, and so each of 10, 2 and 1 is given exactly when, is in proofs/RunNumbers.
+-- The run of commands. Document 01, "Commands": the accumulator starts at 0; for each command 10 comes before 2 and 2 before 1,
+-- and MERGE is no port access; a limit met at a bad command counts first; with every command done it is the end. A stopped run
+-- hands back the state that its earlier commands left. Its laws are in proofs/RunLaws; that its number and place are those of the
+-- table below, and so each of 10, 2 and 1 is given exactly when, is in proofs/RunNumbers.
 use Prim.Native.Nat.{ℕ, zero, suc, _+_, _/_, _%_, min}
 use mathlib.Core.Bool.{true, false, cond}
 use mathlib.Core.List.{List, [], _∷_}
 use lib.Dec.{eqb, ltb}
 use lib.ListN.{length, take, getD}
 use lib.Bits.{bitAnd, bitOr}
-use Rattle.chip.specs.Access.{accessNumber, portWritten, portRead}
+use Rattle.chip.specs.Access.{accessTable, portWritten, portRead}
 use Rattle.chip.specs.declared.Chip.{Chip}
 use Rattle.chip.specs.declared.access.Answer.{Answer}
 use Rattle.chip.specs.declared.access.Answer.the-variants.{Done as Granted, Unlisted as NoPort, Closed as Shut}
@@ -107,27 +107,27 @@ abbrev pub least : Chip → List ℕ → ℕ → ℕ
 least c bytes limit = cond (eqb (length bytes % 4) 0) (min limit (min (length bytes / 4) (carried c 0 (reads bytes)))) 0
 
 -- document 01's number of a reason, and the number and value of an ending: a refusal's place; the end and the limit are 0
-abbrev pub numberOf : Reason → ℕ
-numberOf Form = 10
-numberOf Closed = 2
-numberOf Unlisted = 1
+abbrev pub reasonNumber : Reason → ℕ
+reasonNumber Form = 10
+reasonNumber Closed = 2
+reasonNumber Unlisted = 1
 
 abbrev pub verdictNumber : Verdict → ℕ
 verdictNumber Done = 0
-verdictNumber (Bad why) = numberOf why
+verdictNumber (Bad why) = reasonNumber why
 
 abbrev pub ofEnding : Ending → Returned
 ofEnding Ended = returned 0 0
 ofEnding AtLimit = returned 0 0
-ofEnding (Stopped place why) = returned (numberOf why) place
+ofEnding (Stopped place why) = returned (reasonNumber why) place
 
 -- the table of numbers for a command in a state: 10 where it has no known form; else that of its port access, 2 while the ports
 -- are closed and then 1 where the port or its direction is not listed; MERGE is no port access
 abbrev pub commandTable : Chip → CommandRead → ℕ
-commandTable c (Known (Out port value)) = accessNumber true c port
-commandTable c (Known (In port)) = accessNumber false c port
+commandTable c (Known (Out port value)) = accessTable true c port
+commandTable c (Known (In port)) = accessTable false c port
 commandTable c (Known (Merge keep set)) = 0
-commandTable c (Known (OutAcc port)) = accessNumber true c port
+commandTable c (Known (OutAcc port)) = accessTable true c port
 commandTable c Unknown = 10
 
 -- that of the command at a place, in the state that the commands before it left

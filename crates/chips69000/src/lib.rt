@@ -1,20 +1,21 @@
 // The controller as a C program links it: include/chips69000.h declares these functions. The state is bytes
 // that the program lends (crate `lent_chip`), memory, files and command bytes likewise, and each function returns
-// document 01's number, or 255 for bytes that are no state (specs/Numbers). Nothing is worked out here: every
+// document 01's number, or 255 for bytes that are no state. Nothing is worked out here: every
 // function calls a proved one and says its answer in numbers. Here are the reset and the port accesses; then
 // registers and colours by name, video memory, scripts and the run.
 ghost use mathlib.Core.Path.{_≡_};
+ghost use Prim.Native.Nat.{_/_, _%_};
 ghost use Rattle.chip.specs.Access.{portWritten, portRead};
 ghost use Rattle.chip.specs.Reset.{reset as resetOf};
 ghost use Rattle.lent_chip.specs.Layout.{view, spare};
-ghost use Rattle.lent_chip.specs.Accesses.{Left, writeAnswer, readAnswer};
-ghost use Rattle.lent_chip.specs.Numbers.{writeNumber, readWord};
-ghost use Rattle.lent_reset.specs.Fresh.{restartAnswer};
-ghost use Rattle.chips69000.specs.Numbers.{restartNumber};
+ghost use Rattle.lent_chip.specs.Accesses.{Left};
+ghost use Rattle.lent_chip.specs.Numbers.{writeTable, readTable};
+ghost use Rattle.lent_reset.specs.Fresh.{resetAnswer};
+ghost use Rattle.chips69000.specs.Numbers.{resetNumber};
 use lent_chip::access::read_word;
 use lent_chip::access::write_number;
-use lent_reset::Restarted;
-use lent_reset::restart;
+use lent_reset::LentReset;
+use lent_reset::reset;
 
 pub mod begins;
 pub mod names;
@@ -24,19 +25,19 @@ pub mod video;
 // A reset that lends two pin bytes.
 #[no_mangle]
 pub extern "C" fn chips69000_reset(state: &mut [u8], first: u8, second: u8) -> u8
-    ensures { λ r. ⌜ r ≡ restartNumber (restartAnswer (now (state .entry))) ⌝ }
+    ensures { λ r. ⌜ r ≡ resetNumber (resetAnswer (now (state .entry))) ⌝ }
     ensures { λ _. ⌜ Left (now (state .entry)) (resetOf first second) 0 (now (state .exit)) ⌝ }
 {
-    match restart(state, first, second) {
-        Restarted::Done => 0,
-        Restarted::Length => 255,
+    match reset(state, first, second) {
+        LentReset::Done => 0,
+        LentReset::Length => 255,
     }
 }
 
 // A port write.
 #[no_mangle]
 pub extern "C" fn chips69000_port_write(state: &mut [u8], port: u16, value: u8) -> u8
-    ensures { λ r. ⌜ r ≡ writeNumber (writeAnswer (now (state .entry)) port value) ⌝ }
+    ensures { λ r. ⌜ r ≡ writeTable (now (state .entry)) port value ⌝ }
     ensures { λ _. ⌜ Left (now (state .entry)) (portWritten (view (now (state .entry))) port value .chip) (spare (now (state .entry))) (now (state .exit)) ⌝ }
 {
     write_number(state, port, value)
@@ -45,7 +46,8 @@ pub extern "C" fn chips69000_port_write(state: &mut [u8], port: u16, value: u8) 
 // A port read: 256 times the number, plus the byte.
 #[no_mangle]
 pub extern "C" fn chips69000_port_read(state: &mut [u8], port: u16) -> u16
-    ensures { λ r. ⌜ r ≡ readWord (readAnswer (now (state .entry)) port) ⌝ }
+    ensures { λ r. ⌜ r / 256 ≡ readTable (now (state .entry)) port .number ⌝ }
+    ensures { λ r. ⌜ r % 256 ≡ readTable (now (state .entry)) port .value ⌝ }
     ensures { λ _. ⌜ Left (now (state .entry)) (portRead (view (now (state .entry))) port .chip) (spare (now (state .entry))) (now (state .exit)) ⌝ }
 {
     read_word(state, port)

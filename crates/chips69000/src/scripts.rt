@@ -7,20 +7,20 @@ ghost use Rattle.script.specs.File.{checked};
 ghost use Rattle.script.specs.Numbers.{ofRefusal, ofChecked};
 ghost use Rattle.script_writer.specs.Write.{written, ofWritten, leftBy as listLeftBy};
 ghost use Rattle.script_commands.specs.Translation.{translated, ofTranslated, leftBy};
-ghost use Rattle.chip_run.specs.Run.{ran, ofEnding, numberOf as reasonNumber};
+ghost use Rattle.chip_run.specs.Run.{ran, ofEnding, reasonNumber};
 ghost use Rattle.chip_play.specs.Played.{played, ofOutcome};
 ghost use Rattle.lent_chip.specs.Layout.{view, spare};
 ghost use Rattle.lent_chip.specs.Accesses.{Left};
-ghost use Rattle.lent_run.specs.Drive.{driveAnswer};
-ghost use Rattle.lent_play.specs.Perform.{performAnswer, bufferLeft, ByNameIn};
-ghost use Rattle.chips69000.specs.Numbers.{driveNumber, driveCount, drivePlace, playNumber, countOf, playCount, playValue};
+ghost use Rattle.lent_run.specs.Run.{runAnswer, ofLentRan};
+ghost use Rattle.lent_play.specs.Play.{playAnswer, ofLentPlayed, bufferLeft, ByNameIn};
+ghost use Rattle.chips69000.specs.Numbers.{runCount, countOf, playCount};
 use chip_play::Outcome;
 use chip_run::Ending;
 use chip_run::Reason;
-use lent_play::Performed;
-use lent_play::perform;
-use lent_run::Driven;
-use lent_run::drive;
+use lent_play::LentPlayed;
+use lent_play::play;
+use lent_run::LentRan;
+use lent_run::run;
 use script::Checked;
 use script::Refusal;
 use script::check_file;
@@ -168,19 +168,19 @@ pub extern "C" fn chips69000_run(
     count: &mut usize,
     place: &mut usize,
 ) -> u8
-    ensures { λ r. ⌜ r ≡ driveNumber (driveAnswer (now (state .entry)) (now (commands .entry)) limit) ⌝ }
-    ensures { λ _. ⌜ now (count .exit) ≡ driveCount (driveAnswer (now (state .entry)) (now (commands .entry)) limit) ⌝ }
-    ensures { λ _. ⌜ now (place .exit) ≡ drivePlace (driveAnswer (now (state .entry)) (now (commands .entry)) limit) ⌝ }
+    ensures { λ r. ⌜ r ≡ ofLentRan (runAnswer (now (state .entry)) (now (commands .entry)) limit) .number ⌝ }
+    ensures { λ _. ⌜ now (count .exit) ≡ runCount (runAnswer (now (state .entry)) (now (commands .entry)) limit) ⌝ }
+    ensures { λ _. ⌜ now (place .exit) ≡ ofLentRan (runAnswer (now (state .entry)) (now (commands .entry)) limit) .value ⌝ }
     ensures { λ _. ⌜ Left (now (state .entry)) (ran (view (now (state .entry))) (now (commands .entry)) limit .chip) (spare (now (state .entry))) (now (state .exit)) ⌝ }
 {
-    match drive(state, commands, limit) {
-        Driven::Ran(n, e) => {
+    match run(state, commands, limit) {
+        LentRan::Ran(n, e) => {
             let t = of_ending(e);
             *count = n;
             *place = t.value;
             t.number
         }
-        Driven::Length => {
+        LentRan::Length => {
             *count = 0;
             *place = 0;
             255
@@ -198,21 +198,21 @@ pub extern "C" fn chips69000_play(
     count: &mut usize,
     value: &mut usize,
 ) -> u8
-    ensures { λ r. ⌜ r ≡ playNumber (performAnswer (now (state .entry)) (now (file .entry)) (length (now (commands .entry)))) ⌝ }
-    ensures { λ _. ⌜ now (count .exit) ≡ playCount (performAnswer (now (state .entry)) (now (file .entry)) (length (now (commands .entry)))) ⌝ }
-    ensures { λ _. ⌜ now (value .exit) ≡ playValue (performAnswer (now (state .entry)) (now (file .entry)) (length (now (commands .entry)))) ⌝ }
+    ensures { λ r. ⌜ r ≡ ofLentPlayed (playAnswer (now (state .entry)) (now (file .entry)) (length (now (commands .entry)))) .number ⌝ }
+    ensures { λ _. ⌜ now (count .exit) ≡ playCount (playAnswer (now (state .entry)) (now (file .entry)) (length (now (commands .entry)))) ⌝ }
+    ensures { λ _. ⌜ now (value .exit) ≡ ofLentPlayed (playAnswer (now (state .entry)) (now (file .entry)) (length (now (commands .entry)))) .value ⌝ }
     ensures { λ _. ⌜ Left (now (state .entry)) (played (view (now (state .entry))) (now (file .entry)) (length (now (commands .entry))) .chip) (spare (now (state .entry))) (now (state .exit)) ⌝ }
-    ensures { λ _. ⌜ ByNameIn (now (state .entry)) (now (file .entry)) (length (now (commands .entry))) (now (state .exit)) (performAnswer (now (state .entry)) (now (file .entry)) (length (now (commands .entry)))) ⌝ }
+    ensures { λ _. ⌜ ByNameIn (now (state .entry)) (now (file .entry)) (length (now (commands .entry))) (now (state .exit)) (playAnswer (now (state .entry)) (now (file .entry)) (length (now (commands .entry)))) ⌝ }
     ensures { λ _. ⌜ now (commands .exit) ≡ bufferLeft (now (state .entry)) (now (file .entry)) (now (commands .entry)) ⌝ }
 {
-    match perform(state, file, commands) {
-        Performed::Met(o) => {
+    match play(state, file, commands) {
+        LentPlayed::Met(o) => {
             let t = of_outcome(o);
             *count = count_of(o);
             *value = t.value;
             t.number
         }
-        Performed::Length => {
+        LentPlayed::Length => {
             *count = 0;
             *value = 0;
             255

@@ -1,5 +1,5 @@
--- The byte of flags as a number: what is left of it when one of its three bits is replaced, and that it is known by its bits. Bits are
--- counted from the lowest, 0; the spare bits are those from bit 3 on.
+-- The byte of flags as a number: what is left of it when one of its three bits is replaced, and that it is known by its bits.
+-- Bits are counted from the lowest, 0; the spare bits are those from bit 3 on.
 use Prim.Native.Nat.{ℕ, _+_, _*_, _/_, _%_, _<_}
 use mathlib.Core.Path.{_≡_, refl, sym}
 use mathlib.Core.Bool.{Bool, true, false, cond}

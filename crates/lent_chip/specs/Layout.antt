@@ -1,10 +1,9 @@
--- The chip on lent bytes: which byte of a list is which part of the state. Document 01, "Ports" (the chip state); document 02, P1, for
--- the attribute registers.
--- Regions follow one another: 0 to 6 are the tables of CR, SR, GR, XR, FR, MR and AR, 7 is the palette with three bytes an entry, and 8
--- has the single bytes: MSR, PALMASK, the seven indexes in the order of the tables, the palette's index, its position, the bytes held at
--- red and at green, and last a byte of flags: bit 0 says that the read index was written last (PALSTATE), bit 1 that data comes
--- next at 3C0h, and bit 2 is bit 5 of the attribute index, the picture.
--- Any list of `whole` bytes is a state. The upper five bits of the last byte are no part of the chip: they are spare, and stay.
+-- The chip on lent bytes: which byte of a list is which part of the state. Document 01, "Ports" (the chip state); document 02,
+-- P1, for the attribute registers. Regions follow one another: 0 to 6 are the tables of CR, SR, GR, XR, FR, MR and AR, 7 is the
+-- palette with three bytes an entry, and 8 has the single bytes: MSR, PALMASK, the seven indexes in the order of the tables, the
+-- palette's index, its position, the bytes held at red and at green, and last a byte of flags: bit 0 says that the read index was
+-- written last (PALSTATE), bit 1 that data comes next at 3C0h, and bit 2 is bit 5 of the attribute index, the picture. Any list
+-- of `whole` bytes is a state. The upper five bits of the last byte are no part of the chip: they are spare, and stay.
 use Prim.Native.Nat.{ℕ, suc, zero, _+_, _*_, _/_, _%_}
 use mathlib.Core.Path.{_≡_}
 use mathlib.Core.Bool.{cond}
@@ -103,6 +102,6 @@ slotOf Ar i = i
 unfoldable pub placeOf : Group → ℕ → ℕ
 placeOf g i = start (regionOf g) + slotOf g i
 
--- which byte of a colour a position is at
+-- which byte of a colour a position is at; a position outside the three counts as red (HOUSE)
 abbrev pub thirdOf : ℕ → ℕ
 thirdOf position = cond (eqb position 2) 2 (cond (eqb position 1) 1 0)

@@ -5,23 +5,22 @@ ghost use mathlib.Core.Path.{_≡_};
 ghost use Prim.Native.Nat.{_/_, _%_};
 ghost use lib.ListN.{length};
 ghost use Rattle.chip.specs.State.{withIndexes, indexByte, indexOf, withIndex};
-ghost use Rattle.chip.specs.Access.{portWritten, portRead};
+ghost use Rattle.chip.specs.Access.{writeTo, readFrom, portWritten, portRead};
 ghost use Rattle.lent_chip.specs.Layout.{whole, view, spare, Holds};
-ghost use Rattle.lent_chip.specs.Accesses.{Left, writeAnswer, readAnswer, WroteIn, ReadIn};
-ghost use Rattle.lent_chip.specs.Numbers.{answerOf, writeNumber, readWord};
+ghost use Rattle.lent_chip.specs.Accesses.{Left, WroteIn, ReadIn};
+ghost use Rattle.lent_chip.specs.Numbers.{writeTable, readTable};
 use crate::aim;
 use crate::attribute_index;
 use crate::get;
-use crate::is_colour;
 use crate::is_open;
 use crate::load;
+use crate::move_on;
 use crate::paldata;
 use crate::palstate;
+use crate::picks_3dx;
 use crate::put;
 use crate::set_turn;
-use crate::step;
 use crate::write_attribute;
-use chip::access::Answer;
 use chip_ports::Target;
 use chip_ports::leads_to;
 use chip_registers::Group;
@@ -30,22 +29,8 @@ use chip_registers::index_kept;
 // How many bytes a state has.
 pub const STATE: usize = 2574;
 
-// What a port write answers.
-pub enum Written {
-    Answered(Answer),
-    // The bytes are no state: their length is wrong.
-    Length,
-}
-
-// What a port read answers; the value is FFh where the chip refuses.
-pub enum Seen {
-    Answered(Answer, u8),
-    // The bytes are no state: their length is wrong.
-    Length,
-}
-
-// Document 01's numbers of an access. On a state an access answers by its number, a read by 256 times the number
-// plus the byte: one number stays in a register, where an enum or a struct would go through memory.
+// Document 01's numbers of an access. An access answers by its number, a read by 256 times the number plus the byte:
+// one number stays in a register, where an enum or a struct would go through memory.
 const DONE: u8 = 0;
 
 const UNLISTED: u8 = 1;
@@ -55,17 +40,6 @@ const CLOSED: u8 = 2;
 const UNLISTED_WORD: u16 = 0x1FF;
 
 const CLOSED_WORD: u16 = 0x2FF;
-
-// The answer that a number stands for.
-fn answer_of(n: u8) -> Answer
-    ensures { λ r. ⌜ r ≡ answerOf n ⌝ }
-{
-    match n {
-        0 => Answer::Done,
-        1 => Answer::Unlisted,
-        _ => Answer::Closed,
-    }
-}
 
 // The byte that holds a group's index; MSR and PALMASK have none, and stand at 0.
 fn index_byte(state: &[u8], g: Group) -> u8
@@ -112,15 +86,12 @@ fn set_index(state: &mut [u8], g: Group, v: u8)
     }
 }
 
-// A port write on a state.
-fn write_in(state: &mut [u8], port: u16, v: u8) -> u8
+// A byte written where a port leads.
+fn write_to(state: &mut [u8], t: Target, v: u8) -> u8
     requires { ⌜ length (now state) ≡ whole ⌝ }
-    ensures { λ r. ⌜ WroteIn (now (state .entry)) port v (now (state .exit)) r ⌝ }
+    ensures { λ r. ⌜ WroteIn (now (state .entry)) (writeTo t (view (now (state .entry))) v) (now (state .exit)) r ⌝ }
 {
-    if !is_open(state) {
-        return CLOSED;
-    }
-    match leads_to(is_colour(state), true, port) {
+    match t {
         Target::Index(g) => {
             set_index(state, g, v);
             DONE
@@ -146,10 +117,22 @@ fn write_in(state: &mut [u8], port: u16, v: u8) -> u8
             write_attribute(state, v);
             DONE
         }
-        Target::Status => DONE,
+        Target::Status => UNLISTED,
         Target::NotPicked => DONE,
         Target::NotListed => UNLISTED,
     }
+}
+
+// A port write on a state.
+fn write_in(state: &mut [u8], port: u16, v: u8) -> u8
+    requires { ⌜ length (now state) ≡ whole ⌝ }
+    ensures { λ r. ⌜ WroteIn (now (state .entry)) (portWritten (view (now (state .entry))) port v) (now (state .exit)) r ⌝ }
+{
+    if !is_open(state) {
+        return CLOSED;
+    }
+    let t = leads_to(picks_3dx(state), true, port);
+    write_to(state, t, v)
 }
 
 // A byte that an access shows, as a word.
@@ -159,15 +142,12 @@ fn done(value: u8) -> u16
     value as u16
 }
 
-// A port read on a state.
-fn read_in(state: &mut [u8], port: u16) -> u16
+// A byte read from where a port leads.
+fn read_from(state: &mut [u8], t: Target) -> u16
     requires { ⌜ length (now state) ≡ whole ⌝ }
-    ensures { λ r. ⌜ ReadIn (now (state .entry)) port (now (state .exit)) r ⌝ }
+    ensures { λ r. ⌜ ReadIn (now (state .entry)) (readFrom t (view (now (state .entry)))) (now (state .exit)) r ⌝ }
 {
-    if !is_open(state) {
-        return CLOSED_WORD;
-    }
-    match leads_to(is_colour(state), false, port) {
+    match t {
         Target::Index(g) => done(index(state, g)),
         Target::Data(g) => {
             let i = index(state, g);
@@ -177,7 +157,7 @@ fn read_in(state: &mut [u8], port: u16) -> u16
         Target::WriteIndex => done(state[2569]),
         Target::Paldata => {
             let v = paldata(state);
-            step(state);
+            move_on(state);
             done(v)
         }
         Target::Attribute => done(attribute_index(state)),
@@ -190,32 +170,21 @@ fn read_in(state: &mut [u8], port: u16) -> u16
     }
 }
 
-// A port write.
-pub fn port_write(state: &mut [u8], port: u16, v: u8) -> Written
-    ensures { λ r. ⌜ r ≡ writeAnswer (now (state .entry)) port v ⌝ }
-    ensures { λ _. ⌜ Left (now (state .entry)) (portWritten (view (now (state .entry))) port v .chip) (spare (now (state .entry))) (now (state .exit)) ⌝ }
+// A port read on a state.
+fn read_in(state: &mut [u8], port: u16) -> u16
+    requires { ⌜ length (now state) ≡ whole ⌝ }
+    ensures { λ r. ⌜ ReadIn (now (state .entry)) (portRead (view (now (state .entry))) port) (now (state .exit)) r ⌝ }
 {
-    if state.len() != STATE {
-        return Written::Length;
+    if !is_open(state) {
+        return CLOSED_WORD;
     }
-    Written::Answered(answer_of(write_in(state, port, v)))
+    let t = leads_to(picks_3dx(state), false, port);
+    read_from(state, t)
 }
 
-// A port read.
-pub fn port_read(state: &mut [u8], port: u16) -> Seen
-    ensures { λ r. ⌜ r ≡ readAnswer (now (state .entry)) port ⌝ }
-    ensures { λ _. ⌜ Left (now (state .entry)) (portRead (view (now (state .entry))) port .chip) (spare (now (state .entry))) (now (state .exit)) ⌝ }
-{
-    if state.len() != STATE {
-        return Seen::Length;
-    }
-    let w = read_in(state, port);
-    Seen::Answered(answer_of((w / 256) as u8), (w % 256) as u8)
-}
-
-// A port write that answers by its number alone.
+// A port write, which answers by its number.
 pub fn write_number(state: &mut [u8], port: u16, v: u8) -> u8
-    ensures { λ r. ⌜ r ≡ writeNumber (writeAnswer (now (state .entry)) port v) ⌝ }
+    ensures { λ r. ⌜ r ≡ writeTable (now (state .entry)) port v ⌝ }
     ensures { λ _. ⌜ Left (now (state .entry)) (portWritten (view (now (state .entry))) port v .chip) (spare (now (state .entry))) (now (state .exit)) ⌝ }
 {
     if state.len() != STATE {
@@ -224,9 +193,10 @@ pub fn write_number(state: &mut [u8], port: u16, v: u8) -> u8
     write_in(state, port, v)
 }
 
-// A port read that answers by 256 times its number, plus the byte.
+// A port read, which answers by a word: its high byte is the number, its low byte the byte.
 pub fn read_word(state: &mut [u8], port: u16) -> u16
-    ensures { λ r. ⌜ r ≡ readWord (readAnswer (now (state .entry)) port) ⌝ }
+    ensures { λ r. ⌜ r / 256 ≡ readTable (now (state .entry)) port .number ⌝ }
+    ensures { λ r. ⌜ r % 256 ≡ readTable (now (state .entry)) port .value ⌝ }
     ensures { λ _. ⌜ Left (now (state .entry)) (portRead (view (now (state .entry))) port .chip) (spare (now (state .entry))) (now (state .exit)) ⌝ }
 {
     if state.len() != STATE {

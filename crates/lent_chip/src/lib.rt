@@ -11,7 +11,7 @@ ghost use Prim.Native.Nat.{_+_, _*_, _/_, _%_, _<_};
 ghost use mathlib.Core.Bool.{cond};
 ghost use lib.ListN.{length};
 ghost use Rattle.chip.specs.State.{named, join, withNamed, withIndexes, withLoading, withTurn};
-ghost use Rattle.chip.specs.Names.{register, locked as lockedOf, received, portsOpen, colour as colourOf, eightBit};
+ghost use Rattle.chip.specs.Names.{register, locked as lockedOf, received, portsOpen, picks3Dx, eightBit};
 ghost use Rattle.chip.specs.Palette.{byMode, coloured, aimed, held, moved, loaded, palstate as palstateOf, paldata as paldataOf};
 ghost use Rattle.chip.specs.Attribute.{attributeIndex, attributeAimed, attributeSet, attributeWritten};
 ghost use Rattle.lent_chip.specs.Layout.{start, whole, view, spare, regionOf, slotOf, placeOf, thirdOf, Holds};
@@ -104,9 +104,9 @@ fn is_open(state: &[u8]) -> bool
 }
 
 // Whether MSR bit 0 picks the CR pair at 3D4h and 3D5h.
-fn is_colour(state: &[u8]) -> bool
+fn picks_3dx(state: &[u8]) -> bool
     requires { ⌜ length (now state) ≡ whole ⌝ }
-    ensures { λ r. ⌜ r ≡ colourOf (named (view (now (state .entry)))) ⌝ }
+    ensures { λ r. ⌜ r ≡ picks3Dx (named (view (now (state .entry)))) ⌝ }
 {
     get(state, Group::Msr, 0x00) % 2 == 1
 }
@@ -187,7 +187,7 @@ fn aim(state: &mut [u8], v: u8, reading: bool)
 }
 
 // The position moves on, and after blue the index.
-fn step(state: &mut [u8])
+fn move_on(state: &mut [u8])
     requires { ⌜ length (now state) ≡ whole ⌝ }
     ensures { λ _. ⌜ Holds (now (state .exit)) (withLoading (view (now (state .entry))) (moved (view (now (state .entry)) .loading))) (spare (now (state .entry))) ⌝ }
 {
@@ -239,7 +239,7 @@ fn load(state: &mut [u8], v: u8)
     ensures { λ _. ⌜ Holds (now (state .exit)) (join (loaded (named (view (now (state .entry)))) (view (now (state .entry)) .loading) v) (view (now (state .entry)) .indexes) (moved (held (view (now (state .entry)) .loading) v))) (spare (now (state .entry))) ⌝ }
 {
     hold(state, v);
-    step(state);
+    move_on(state);
 }
 
 // What PALSTATE reads.

@@ -23,7 +23,7 @@ use Rattle.chip.specs.declared.Rgb.{Rgb}
 use Rattle.chip.proofs.ReachLaws.{unlisted-reads-00}
 use Rattle.lent_chip.specs.Layout.{whole, view, Holds}
 use Rattle.lent_names.specs.Answers.{registerAnswer, entryAnswer, pixelAnswer}
-use Rattle.lent_names.specs.Numbers.{registerNumber, registerByte, registerWord, colourWord}
+use Rattle.lent_names.specs.Numbers.{ofRegister, registerWord, colourWord}
 use Rattle.lent_names.specs.declared.Register.{Register}
 use Rattle.lent_names.specs.declared.Register.the-variants.{Byte, NoGroup, Length as RegisterLength}
 use Rattle.lent_names.specs.declared.Colour.the-variants.{Given}
@@ -70,11 +70,11 @@ pub record Exact (l : List ℕ) (g : ℕ) (number : ℕ) : Type 0 where
   pub no-group : number ≡ 254 ↔ (length l ≡ whole) × (8 < g)
   pub done : number ≡ 0 ↔ (length l ≡ whole) × (g ≤ 8)
 
-pub register-exact : (l : List ℕ) (g i : ℕ) → Exact l g (registerNumber (registerAnswer l g i))
+pub register-exact : (l : List ℕ) (g i : ℕ) → Exact l g (ofRegister (registerAnswer l g i) .number)
 register-exact l g i = go (eqb (length l) whole) refl (ltb g 9) refl
   where
     go : (z : Bool) → eqb (length l) whole ≡ z → (y : Bool) → ltb g 9 ≡ y
-        → Exact l g (registerNumber (cond z (cond y (Byte (register (groupAt g) (named (view l)) i)) NoGroup) RegisterLength))
+        → Exact l g (ofRegister (cond z (cond y (Byte (register (groupAt g) (named (view l)) i)) NoGroup) RegisterLength) .number)
     go true e true f =
         let n : length l ≡ whole = eqb-true _ _ e in
         let w : g < 9 = ltb-true _ _ f in
@@ -100,7 +100,7 @@ register-exact l g i = go (eqb (length l) whole) refl (ltb g 9) refl
         }
 
 -- of a register's word the number and the byte can be taken out, of a colour's the number, red, green and blue
-pub register-parts : (r : Register) → registerByte r < 256 → (registerWord r / 256 ≡ registerNumber r) × (registerWord r % 256 ≡ registerByte r)
+pub register-parts : (r : Register) → ofRegister r .value < 256 → (registerWord r / 256 ≡ ofRegister r .number) × (registerWord r % 256 ≡ ofRegister r .value)
 register-parts r h = (omega arith, omega arith)
 
 pub record Parts (c : Rgb) (word : ℕ) : Type 0 where
@@ -116,7 +116,7 @@ pub no-colour : (l : List ℕ) (e : ℕ) → (length l ≡ whole → ⊥) → (c
 no-colour l e n = (rw (ne-eqb _ _ n), rw (ne-eqb _ _ n))
 
 -- a refusal shows FFh
-pub refused-FF : (r : Register) → (registerNumber r ≡ 0 → ⊥) → registerByte r ≡ 0xFF
+pub refused-FF : (r : Register) → (ofRegister r .number ≡ 0 → ⊥) → ofRegister r .value ≡ 0xFF
 refused-FF (Byte b) n = absurd (n refl)
 refused-FF NoGroup n = refl
 refused-FF RegisterLength n = refl

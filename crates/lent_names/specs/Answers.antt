@@ -1,7 +1,7 @@
 -- What lent bytes answer by name. Document 01, "Ports" (the groups' numbers), "Registers" and "Palette"; document 02, P1: AR is
--- group 8. Bytes of another length than a state's are refused before anything else, then a number that no group has. Every index is
--- accepted: where none is listed crate `chip`'s `register` is asked too, and MSR and PALMASK are one register each, whatever the
--- index.
+-- group 8. Bytes of another length than a state's are refused before anything else, then a number that no group has. Every index
+-- is accepted: where none is listed crate `chip`'s `register` is asked too, and MSR and PALMASK are one register each, whatever
+-- the index.
 use Prim.Native.Nat.{ℕ}
 use mathlib.Core.Bool.{cond}
 use mathlib.Core.List.{List}

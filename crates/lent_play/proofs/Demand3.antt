@@ -1,5 +1,5 @@
--- Demand 3 on lent bytes: what the run answers and leaves is that of the run on the chip that they hold, of which crate `chip_play`
--- says it.
+-- Demand 3 on lent bytes: what the run answers and leaves is that of the run on the chip that they hold, of which crate
+-- `chip_play` says it.
 use Prim.Native.Nat.{ℕ, _≤_}
 use mathlib.Core.Path.{_≡_, ap, _∙_}
 use mathlib.Core.Bool.{true}
@@ -17,14 +17,14 @@ use Rattle.chip_play.specs.Demand3.{ranSteps}
 use Rattle.chip_play.proofs.Demand3.{after-steps}
 use Rattle.lent_chip.specs.Layout.{whole, view, spare}
 use Rattle.lent_chip.specs.Accesses.{Left}
-use Rattle.lent_run.specs.Drive.{driveAnswer}
-use Rattle.lent_run.specs.declared.Driven.{Driven}
-use Rattle.lent_run.specs.declared.Driven.the-variants.{Ran}
+use Rattle.lent_run.specs.Run.{runAnswer}
+use Rattle.lent_run.specs.declared.LentRan.{LentRan}
+use Rattle.lent_run.specs.declared.LentRan.the-variants.{Ran}
 use Rattle.lent_play.specs.Demand3.{AfterStepsIn, Demand-3-in}
 
 after-steps-in : (file : List ℕ) (m : ℕ) → checked file ≡ Accepted m → (l : List ℕ) → length l ≡ whole → portsOpen (named (view l)) ≡ true
-    → (n : ℕ) → n ≤ m → (r : Driven) (after : List ℕ)
-    → r ≡ driveAnswer l (bytesOfAll (commandsTo file m)) (begins file n) → Left l (ranSteps (view l) file m n .chip) (spare l) after
+    → (n : ℕ) → n ≤ m → (r : LentRan) (after : List ℕ)
+    → r ≡ runAnswer l (bytesOfAll (commandsTo file m)) (begins file n) → Left l (ranSteps (view l) file m n .chip) (spare l) after
     → AfterStepsIn l file n r after
 after-steps-in file m acc l size free n room r after gave left =
     let a = after-steps file m acc (view l) free n room in

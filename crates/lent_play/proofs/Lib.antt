@@ -1,2 +1,2 @@
-pub mod Performing
+pub mod Playing
 pub mod Demand3

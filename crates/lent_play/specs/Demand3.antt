@@ -1,8 +1,8 @@
 -- Demand 3 on lent bytes, to read: after the commands of each step the chip that the bytes hold is by name what the steps say.
--- The run is that of crate `lent_run`, whose contract has the two premises on its answer and on the bytes that it leaves; `begins`
--- is what `step_commands` of crate `script_commands` answers. The bytes may hold any state whose ports are open, reached by accesses
--- or not. The theorem is `demand-3-in`, in proofs/Demand3; the definitions under it and the laws beside it are those of
--- specs/Demand3 of crate `chip_play`.
+-- The run is that of crate `lent_run`, whose contract has the two premises on its answer and on the bytes that it leaves;
+-- `begins` is what `step_commands` of crate `script_commands` answers. The bytes may hold any state whose ports are open, reached
+-- by accesses or not. The theorem is `demand-3-in`, in proofs/Demand3; the definitions under it and the laws beside it are those
+-- of specs/Demand3 of crate `chip_play`.
 use Prim.Native.Nat.{ℕ, _≤_}
 use mathlib.Core.Path.{_≡_}
 use mathlib.Core.Bool.{true}
@@ -21,13 +21,13 @@ use Rattle.chip_play.specs.ByName.{appliedAll}
 use Rattle.chip_play.specs.Demand3.{ranSteps}
 use Rattle.lent_chip.specs.Layout.{whole, view, spare}
 use Rattle.lent_chip.specs.Accesses.{Left}
-use Rattle.lent_run.specs.Drive.{driveAnswer}
-use Rattle.lent_run.specs.declared.Driven.{Driven}
-use Rattle.lent_run.specs.declared.Driven.the-variants.{Ran}
+use Rattle.lent_run.specs.Run.{runAnswer}
+use Rattle.lent_run.specs.declared.LentRan.{LentRan}
+use Rattle.lent_run.specs.declared.LentRan.the-variants.{Ran}
 
 -- what the run of the first n steps' commands answers and leaves of the bytes l: all of them were carried out, none was
 -- refused, the registers and colours are what the steps say by name, and bit 5 of the attribute index is as it was
-pub record AfterStepsIn (l file : List ℕ) (n : ℕ) (r : Driven) (after : List ℕ) : Type 0 where
+pub record AfterStepsIn (l file : List ℕ) (n : ℕ) (r : LentRan) (after : List ℕ) : Type 0 where
   pub ending : Ending
   pub answer : r ≡ Ran (begins file n) ending
   pub unrefused : ofEnding ending ≡ returned 0 0
@@ -38,6 +38,6 @@ pub record AfterStepsIn (l file : List ℕ) (n : ℕ) (r : Driven) (after : List
 pub record Demand-3-in : Type 0 where
   pub holds : (file : List ℕ) (m : ℕ) → checked file ≡ Accepted m
       → (l : List ℕ) → length l ≡ whole → portsOpen (named (view l)) ≡ true
-      → (n : ℕ) → n ≤ m → (r : Driven) (after : List ℕ)
-      → r ≡ driveAnswer l (bytesOfAll (commandsTo file m)) (begins file n) → Left l (ranSteps (view l) file m n .chip) (spare l) after
+      → (n : ℕ) → n ≤ m → (r : LentRan) (after : List ℕ)
+      → r ≡ runAnswer l (bytesOfAll (commandsTo file m)) (begins file n) → Left l (ranSteps (view l) file m n .chip) (spare l) after
       → AfterStepsIn l file n r after

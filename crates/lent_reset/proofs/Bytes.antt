@@ -1,4 +1,5 @@
--- Bytes that are a reset's one by one hold the chip that `reset` gives: each table by its elements, the palette and the rest by 0.
+-- Bytes that are a reset's one by one hold the chip that `reset` gives: each table by its elements, the palette and the rest by
+-- 0.
 use Prim.Native.Nat.{ℕ, zero, suc, _+_, _*_, _/_, _%_, _<_, _≤_}
 use mathlib.Core.Path.{_≡_, refl, ap, _∙_}
 use mathlib.Core.Bool.{Bool, true, false}

@@ -9,13 +9,13 @@ ghost use Rattle.chip_registers.specs.Groups.{tableAt};
 ghost use Rattle.chip.specs.Reset.{reset as resetOf};
 ghost use Rattle.lent_chip.specs.Layout.{whole, Holds};
 ghost use Rattle.lent_chip.specs.Accesses.{Left};
-ghost use Rattle.lent_reset.specs.Fresh.{freshByte, restartAnswer};
+ghost use Rattle.lent_reset.specs.Fresh.{freshByte, resetAnswer};
 use chip::after_reset;
 use chip_registers::Group;
 use lent_chip::access::STATE;
 
 // What a reset answers.
-pub enum Restarted {
+pub enum LentReset {
     Done,
     // The bytes are no state: their length is wrong.
     Length,
@@ -78,13 +78,13 @@ fn fill(state: &mut [u8], first: u8, second: u8)
 }
 
 // A reset that lends two pin bytes.
-pub fn restart(state: &mut [u8], first: u8, second: u8) -> Restarted
-    ensures { λ r. ⌜ r ≡ restartAnswer (now (state .entry)) ⌝ }
+pub fn reset(state: &mut [u8], first: u8, second: u8) -> LentReset
+    ensures { λ r. ⌜ r ≡ resetAnswer (now (state .entry)) ⌝ }
     ensures { λ _. ⌜ Left (now (state .entry)) (resetOf first second) 0 (now (state .exit)) ⌝ }
 {
     if state.len() != STATE {
-        return Restarted::Length;
+        return LentReset::Length;
     }
     fill(state, first, second);
-    Restarted::Done
+    LentReset::Done
 }

@@ -11,16 +11,16 @@ use Rattle.chip_run.proofs.RunNumbers.{run-number}
 use Rattle.lent_chip.specs.Layout.{view, spare}
 use Rattle.lent_chip.specs.Accesses.{isState, Left}
 use Rattle.lent_chip.specs.Numbers.{noState}
-use Rattle.lent_run.specs.Drive.{driveAnswer, ofDriven, driveTable}
-use Rattle.lent_run.specs.declared.Driven.{Driven}
-use Rattle.lent_run.specs.declared.Driven.the-variants.{Ran as DrivenRan, Length}
+use Rattle.lent_run.specs.Run.{runAnswer, ofLentRan, lentRunTable}
+use Rattle.lent_run.specs.declared.LentRan.{LentRan}
+use Rattle.lent_run.specs.declared.LentRan.the-variants.{Ran as RanTo, Length}
 
-pub drive-number : (l bytes : List ℕ) (limit : ℕ) → ofDriven (driveAnswer l bytes limit) ≡ driveTable l bytes limit
-drive-number l bytes limit =
-    of-cond ofDriven (isState l) (DrivenRan (ran (view l) bytes limit .count) (ran (view l) bytes limit .ending)) Length
+pub lent-run-number : (l bytes : List ℕ) (limit : ℕ) → ofLentRan (runAnswer l bytes limit) ≡ lentRunTable l bytes limit
+lent-run-number l bytes limit =
+    of-cond ofLentRan (isState l) (RanTo (ran (view l) bytes limit .count) (ran (view l) bytes limit .ending)) Length
     ∙ ap (λ (x : Returned). cond (isState l) x (returned noState 0)) (run-number (view l) bytes limit)
 
--- what the contract of `drive` says, from the answer and what is left
-pub drive-answered : (l bytes : List ℕ) (limit : ℕ) {r : Driven} {c : Chip} {m : List ℕ} → r ≡ driveAnswer l bytes limit → Left l c (spare l) m
-    → (r ≡ driveAnswer l bytes limit) × (Left l c (spare l) m × (ofDriven r ≡ driveTable l bytes limit))
-drive-answered l bytes limit e left = (e, (left, ap ofDriven e ∙ drive-number l bytes limit))
+-- what the contract of `run` says, from the answer and what is left
+pub run-answered : (l bytes : List ℕ) (limit : ℕ) {r : LentRan} {c : Chip} {m : List ℕ} → r ≡ runAnswer l bytes limit → Left l c (spare l) m
+    → (r ≡ runAnswer l bytes limit) × (Left l c (spare l) m × (ofLentRan r ≡ lentRunTable l bytes limit))
+run-answered l bytes limit e left = (e, (left, ap ofLentRan e ∙ lent-run-number l bytes limit))

@@ -1,1 +1,1 @@
-pub mod Drive
+pub mod Run

@@ -27,9 +27,9 @@ use Rattle.chip_ports.specs.declared.Target.the-variants.{Index, Data}
 use Rattle.chip_ports.proofs.PortLaws as port-laws
 use Rattle.chip_ports.proofs.PortLaws.{listedPorts, linesFrom, documented}
 use Rattle.chip.specs.State.{Named, named, join, withIndex, withPicture, withTurn}
-use Rattle.chip.specs.Names.{register, received, writableAt, portsOpen, colour, eightBit}
+use Rattle.chip.specs.Names.{register, received, writableAt, portsOpen, picks3Dx, eightBit}
 use Rattle.chip.specs.Palette.{entry, rgb, shown}
-use Rattle.chip.specs.Access.{numberOf, accessNumber, portWritten, portRead, wrote}
+use Rattle.chip.specs.Access.{answerNumber, accessTable, portWritten, portRead, wrote}
 use Rattle.chip.specs.Reset.{reset, resetByte}
 use Rattle.chip.specs.Reach.{Reach}
 use Rattle.chip.specs.declared.Chip.{Chip}
@@ -87,9 +87,9 @@ use Rattle.chip.proofs.NameLaws.{Bytes as NamedBytes}
 use Rattle.lent_chip.specs.Layout.{whole, view, spare}
 use Rattle.lent_chip.specs.Accesses.{Left}
 use Rattle.lent_chip.proofs.Whole as whole-laws
-use Rattle.lent_run.specs.Drive.{driveAnswer}
-use Rattle.lent_run.specs.declared.Driven.{Driven}
-use Rattle.lent_run.specs.declared.Driven.the-variants.{Ran}
+use Rattle.lent_run.specs.Run.{runAnswer}
+use Rattle.lent_run.specs.declared.LentRan.{LentRan}
+use Rattle.lent_run.specs.declared.LentRan.the-variants.{Ran}
 use Rattle.lent_play.proofs.Demand3 as lent-scripts
 use Rattle.text_from_script.specs.Show.{textOf}
 use Rattle.text_to_script.specs.Compose.{composed, leftBy as textLeftBy}
@@ -104,17 +104,17 @@ use Rattle.cases_requests.proofs.Holding as asked-laws
 -- ==== 1. Everything is accepted: each number exactly when, and a refusal changes nothing
 
 -- A port access gives 2 where ports are closed, else 1 where the port, in this direction, is not in document 01's list, else 0.
-pub write-numbers : (c : Chip) (p v : ℕ) → numberOf (portWritten c p v .answer) ≡ cond (portsOpen (named c)) (cond (has p (listedPorts true)) 0 1) 2
+pub write-numbers : (c : Chip) (p v : ℕ) → answerNumber (portWritten c p v .answer) ≡ cond (portsOpen (named c)) (cond (has p (listedPorts true)) 0 1) 2
 write-numbers c p v = number-laws.write-number c p v ∙ number-laws.number-listed true c p
 
-pub read-numbers : (c : Chip) (p : ℕ) → numberOf (portRead c p .answer) ≡ cond (portsOpen (named c)) (cond (has p (listedPorts false)) 0 1) 2
+pub read-numbers : (c : Chip) (p : ℕ) → answerNumber (portRead c p .answer) ≡ cond (portsOpen (named c)) (cond (has p (listedPorts false)) 0 1) 2
 read-numbers c p = number-laws.read-number c p ∙ number-laws.number-listed false c p
 
 -- A refused access hands back the whole state, and a refused read FFh.
-pub refused-write : (c : Chip) (p v : ℕ) → (numberOf (portWritten c p v .answer) ≡ 0 → ⊥) → portWritten c p v .chip ≡ c
+pub refused-write : (c : Chip) (p v : ℕ) → (answerNumber (portWritten c p v .answer) ≡ 0 → ⊥) → portWritten c p v .chip ≡ c
 refused-write = number-laws.write-refused
 
-pub refused-read : (c : Chip) (p : ℕ) → (numberOf (portRead c p .answer) ≡ 0 → ⊥) → (portRead c p .value ≡ 0xFF) × (portRead c p .chip ≡ c)
+pub refused-read : (c : Chip) (p : ℕ) → (answerNumber (portRead c p .answer) ≡ 0 → ⊥) → (portRead c p .value ≡ 0xFF) × (portRead c p .chip ≡ c)
 refused-read = number-laws.read-refused
 
 -- A byte of memory: 3 exactly when the memory's length is not allowed, 4 exactly when it is and the place lies outside.
@@ -147,7 +147,7 @@ translation-numbers = translating.translated-number
 pub run-numbers : (c : Chip) (bytes : List ℕ) (limit : ℕ) → ofEnding (ran c bytes limit .ending) ≡ runTable c bytes limit
 run-numbers = run-number-laws.run-number
 
-pub access-numbers : (write : Bool) (c : Chip) (p : ℕ) → accessNumber write c p ≡ cond (portsOpen (named c)) (cond (has p (listedPorts write)) 0 1) 2
+pub access-numbers : (write : Bool) (c : Chip) (p : ℕ) → accessTable write c p ≡ cond (portsOpen (named c)) (cond (has p (listedPorts write)) 0 1) 2
 access-numbers = number-laws.number-listed
 
 -- It counts the least of the limit, the commands there are and those before the first refused one.
@@ -185,7 +185,7 @@ unlisted-00 = reach-laws.unlisted-reads-00
 pub rows-printed : asPrinted printed ≡ true
 rows-printed = printed-rows.printed-rows
 
-pub ports-printed : (colour : Bool) → linesFrom colour 0x3B0 0x30 ≡ documented colour
+pub ports-printed : (picks3Dx : Bool) → linesFrom picks3Dx 0x3B0 0x30 ≡ documented picks3Dx
 ports-printed = port-laws.ports-documented
 
 -- A pixel shows the entry at the pixel AND PALMASK, in eight-bit mode as stored, in six-bit mode four times each component modulo 64.
@@ -233,9 +233,9 @@ pub demand-3-every-script : (ss : List Step) → 1 ≤ length ss → length ss �
     → (file : List ℕ) × (checked file ≡ Accepted (length ss)) × (stepsTo file (length ss) ≡ ss)
 demand-3-every-script ss some few pass = let r = script-laws.script-there ss some few pass in (r .file, r .accepted, r .steps)
 
--- The same on lent bytes, after each step, of any bytes that hold a chip whose ports are open: what `drive` answers, and leaves.
+-- The same on lent bytes, after each step, of any bytes that hold a chip whose ports are open: what `run` of `lent_run` answers, and leaves.
 pub demand-3-on-lent-bytes : (file : List ℕ) (m : ℕ) → checked file ≡ Accepted m → (l : List ℕ) → length l ≡ whole → portsOpen (named (view l)) ≡ true
-    → (n : ℕ) → n ≤ m → (r : Driven) (after : List ℕ) → r ≡ driveAnswer l (bytesOfAll (commandsTo file m)) (begins file n)
+    → (n : ℕ) → n ≤ m → (r : LentRan) (after : List ℕ) → r ≡ runAnswer l (bytesOfAll (commandsTo file m)) (begins file n)
     → Left l (ran (view l) (bytesOfAll (commandsTo file m)) (begins file n) .chip) (spare l) after
     → ((e : Ending) × (r ≡ Ran (begins file n) e) × (ofEnding e ≡ returned 0 0))
     × (named (view after) ≡ appliedAll (stepsTo file n) (named (view l))) × (view after .picture ≡ view l .picture)
@@ -276,7 +276,7 @@ pub P3-appendix-E : (j p s d : ℕ) → j < length printedCodes → p < 256 → 
 P3-appendix-E = appendix-laws.appendix-E
 
 -- P5. At a port a long index is the same as its short one; in a step an index that does not fit its group is refused with 7.
-pub P5-folds-at-the-port : (c : Chip) (p v : ℕ) (g : Group) → portsOpen (named c) ≡ true → target (colour (named c)) true p ≡ Index g
+pub P5-folds-at-the-port : (c : Chip) (p v : ℕ) (g : Group) → portsOpen (named c) ≡ true → target (picks3Dx (named c)) true p ≡ Index g
     → portWritten c p v ≡ portWritten c p (indexKept g v)
 P5-folds-at-the-port = index-laws.index-folds
 

@@ -10,7 +10,7 @@ use lib.ListN.{length, take, drop, replicate}
 use Rattle.chip.specs.State.{named}
 use Rattle.chip.specs.Reset.{reset}
 use Rattle.chip.specs.Palette.{shown}
-use Rattle.chip.specs.Access.{numberOf, portWritten, portRead}
+use Rattle.chip.specs.Access.{answerNumber, portWritten, portRead}
 use Rattle.chip.specs.declared.Chip.{Chip}
 use Rattle.chip.specs.declared.Rgb.{Rgb}
 use Rattle.chip.specs.declared.access.Wrote.{Wrote}
@@ -66,11 +66,11 @@ abbrev pub afterReset : Bench → ℕ → ℕ → Acted
 afterReset b first second = replied (withChip b (reset first second)) (Number 0)
 
 abbrev pub afterOut : Bench → Wrote → Acted
-afterOut b w = replied (withChip b (w .chip)) (Number (numberOf (w .answer)))
+afterOut b w = replied (withChip b (w .chip)) (Number (answerNumber (w .answer)))
 
 -- a refused read gives FFh
 abbrev pub afterIn : Bench → Seen → Acted
-afterIn b s = replied (withChip b (s .chip)) (Byte (numberOf (s .answer)) (s .value))
+afterIn b s = replied (withChip b (s .chip)) (Byte (answerNumber (s .answer)) (s .value))
 
 abbrev pub afterPixel : Bench → Rgb → Acted
 afterPixel b e = replied b (Colour (e .red) (e .green) (e .blue))

@@ -11,6 +11,6 @@ chips69000-reset-spec =
     (λ c. search needs)
     (λ c. search needs)
     (λ c. search needs)
-    (λ c. (rw (← c .before .before .before .before .restart .ensures .0, c .enum-told .given .1), c .before .before .before .before .restart .ensures .1))
+    (λ c. (rw (← c .before .before .before .before .reset .ensures .0, c .enum-told .given .1), c .before .before .before .before .reset .ensures .1))
     (λ c. search needs)
-    (λ c. (rw (← c .before .before .before .before .restart .ensures .0, c .enum-told2 .given .1), c .before .before .before .before .restart .ensures .1)))
+    (λ c. (rw (← c .before .before .before .before .reset .ensures .0, c .enum-told2 .given .1), c .before .before .before .before .reset .ensures .1)))

@@ -11,4 +11,4 @@ load-spec =
     (λ c κs. search needs)
     (λ c κs. search needs)
     (λ c. search needs)
-    (λ c. record { size = c .before .before .step .ensures .size; chip = c .before .before .step .ensures .chip ∙ rw (c .before .before .before .before .before .before .hold .ensures .chip); spare = c .before .before .step .ensures .spare ∙ c .before .before .before .before .before .before .hold .ensures .spare }))
+    (λ c. record { size = c .before .before .move-on .ensures .size; chip = c .before .before .move-on .ensures .chip ∙ rw (c .before .before .before .before .before .before .hold .ensures .chip); spare = c .before .before .move-on .ensures .spare ∙ c .before .before .before .before .before .before .hold .ensures .spare }))

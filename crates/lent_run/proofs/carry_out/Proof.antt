@@ -22,6 +22,6 @@ carry-out-spec =
     (λ c. rw (c .before .before .before .before .before .c .given .1) (c .before .before .send .ensures))
     (λ c. search needs)
     (λ c. rw (c .before .before .before .before .before .c2 .given .1) (c .before .before .fetch .ensures))
-    (λ c. rw (c .before .c3 .given .1) (record { holds = as-it-is (c .before .before .before .before .pre); verdict = refl; acc = refl }))
+    (λ c. rw (c .before .c3 .given .1) (record { holds = as-it-is (c .before .before .before .before .pre); number = refl; acc = refl }))
     (λ c. search needs)
     (λ c. rw (c .before .before .before .before .before .c4 .given .1) (c .before .before .send2 .ensures)))

@@ -14,7 +14,7 @@ command-spec =
     (λ c κs. search needs)
     (λ c. search needs)
     (λ c. search needs)
-    (λ c. rw (← c .before .before .command-of .ensures, c .enum-told .given .1) (record { holds = as-it-is (c .before .before .before .before .pre); verdict = refl; acc = refl }))
+    (λ c. rw (← c .before .before .command-of .ensures, c .enum-told .given .1) (record { holds = as-it-is (c .before .before .before .before .pre); number = refl; acc = refl }))
     (λ c κs. search needs)
     (λ c. search needs)
     (λ c. rw (← c .before .before .before .before .before .before .before .command-of .ensures, c .before .before .before .before .before .x .given .1) (c .before .before .carry-out .ensures)))

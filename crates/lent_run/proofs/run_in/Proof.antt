@@ -22,12 +22,12 @@ run-in-spec =
     (tie.spec
     Inv-loop
     μ-loop
-    (λ c. unrun (c .before .before .before .args .commands .now) (c .before .before .before .args .limit) (c .before .before .before .pre) (uneven _ _ _ (c .if1 .taken)) refl refl)
+    (λ c. unrun (c .before .before .before .args .commands .now) (c .before .before .before .args .limit) (c .before .before .before .pre) (uneven _ _ _ (c .if1 .taken)))
     (λ c. (begun (c .before .before .before .pre) (c .if1 .left) (whole _ _ _ (c .if1 .left)), refl))
     (λ c. omega (arith, c .before .before .loop .inv .0 .size))
     (λ c. let (g, _) = c .before .before .loop .inv in
     let room : c .before .before .loop .at + 3 < length (c .before .before .before .before .before .before .args .commands .now) = omega (arith, g .aligned, g .even) in
-    out AtLimit g (limited _ _ _ _ _ _ room (c .if2 .taken)) refl refl)
+    out AtLimit g (limited _ _ _ _ _ _ room (c .if2 .taken)))
     (λ c. omega arith)
     (λ c. omega arith)
     (λ c. omega arith)
@@ -36,20 +36,23 @@ run-in-spec =
     (λ c. omega arith)
     (λ c. omega arith)
     (λ c κs. search needs)
-    (λ c. search needs)
+    (λ c κs. search needs)
     (λ c. omega arith)
-    (λ c. let (g, _) = c .before .before .before .before .before .before .before .before .before .before .before .before .before .loop .inv in
-    let room : c .before .before .before .before .before .before .before .before .before .before .before .before .before .loop .at + 3 < length (c .before .before .before .before .before .before .before .before .before .before .before .before .before .before .before .before .before .args .commands .now) = omega (arith, g .aligned, g .even) in
-    let below : c .before .before .before .before .before .before .before .before .before .before .before .before .before .loop .place < c .before .before .before .before .before .before .before .before .before .before .before .before .before .before .before .before .before .args .limit = omega (arith, g .below) in
-    stopped g room below (c .before .before .before .before .before .command .ensures) _ (c .before .v .given .1) refl refl)
-    (λ c. search needs)
+    (λ c. let l = c .before .before .before .before .before .before .before .before .before .before .before .before .loop in
+    let a = c .before .before .before .before .before .before .before .before .before .before .before .before .before .before .before .before .args in
+    let (g, _) = l .inv in
+    let room : l .at + 3 < length (a .commands .now) = omega (arith, g .aligned, g .even) in
+    let below : l .place < a .limit = omega (arith, g .below) in
+    stopped g room below (c .before .before .before .before .command .ensures) (c .before .if3 .taken) (c .reason-of .ensures))
     (λ c. omega arith)
     (λ c. omega arith)
     (λ c. omega arith)
-    (λ c. let (g, s) = c .before .before .before .before .before .before .before .before .before .before .before .before .loop .inv in
-    let room : c .before .before .before .before .before .before .before .before .before .before .before .before .loop .at + 3 < length (c .before .before .before .before .before .before .before .before .before .before .before .before .before .before .before .before .args .commands .now) = omega (arith, g .aligned, g .even) in
-    let below : c .before .before .before .before .before .before .before .before .before .before .before .before .loop .place < c .before .before .before .before .before .before .before .before .before .before .before .before .before .before .before .before .args .limit = omega (arith, g .below) in
-    (again g room below (c .before .before .before .before .command .ensures) (c .enum-told .given .1), s))
+    (λ c. let l = c .before .before .before .before .before .before .before .before .before .before .before .loop in
+    let a = c .before .before .before .before .before .before .before .before .before .before .before .before .before .before .before .args in
+    let (g, s) = l .inv in
+    let room : l .at + 3 < length (a .commands .now) = omega (arith, g .aligned, g .even) in
+    let below : l .place < a .limit = omega (arith, g .below) in
+    (again g room below (c .before .before .before .command .ensures) (c .if3 .left), s))
     (λ c. omega arith)
     (λ c. let (g, _) = c .before .loop .inv in
-    out Ended g (finished _ _ _ _ (c .before .before .before .before .before .args .commands .now) (c .before .loop .at) (omega arith)) refl refl))
+    out Ended g (finished _ _ _ _ (c .before .before .before .before .before .args .commands .now) (c .before .loop .at) (omega arith))))

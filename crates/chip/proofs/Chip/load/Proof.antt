@@ -14,6 +14,6 @@ load-spec =
     (λ c κs. search needs)
     (λ c κs. search needs)
     (λ c κs. search needs)
-    (λ c. rw (c .with-loading .ensures, c .before .put-colour .ensures, c .before .before .before .step .ensures, c .before .before .before .before .hold .ensures, eq-eqb _ _ (c .before .before .if1 .taken)))
+    (λ c. rw (c .with-loading .ensures, c .before .put-colour .ensures, c .before .before .before .move-on .ensures, c .before .before .before .before .hold .ensures, eq-eqb _ _ (c .before .before .if1 .taken)))
     (λ c κs. search needs)
-    (λ c. rw (c .with-loading2 .ensures, c .before .before .step .ensures, c .before .before .before .hold .ensures, ne-eqb _ _ (c .before .if1 .left))))
+    (λ c. rw (c .with-loading2 .ensures, c .before .before .move-on .ensures, c .before .before .before .hold .ensures, ne-eqb _ _ (c .before .if1 .left))))

@@ -2,7 +2,6 @@
 use borrow.Author.Tests.{eq-eqb, ne-eqb}
 use Rattle.lent_chip.proofs.Reached.{left-held, left-kept}
 use borrow.Author.Needs.{needs}
-use native.Mathlib.Omega.{arith}
 use Rattle.lent_chip.proofs.access.read_word.Statement.{statement}
 use Rattle.lent_chip.proofs.access.read_word.Tie as tie
 
@@ -10,7 +9,9 @@ pub read-word-spec : {M : Type 1} → statement M
 read-word-spec =
     tie.close
     (tie.spec
-    (λ c. (rw (ne-eqb _ _ (c .if1 .taken)), left-kept (c .if1 .taken)))
+    (λ c. (rw (ne-eqb _ _ (c .if1 .taken)), (rw (ne-eqb _ _ (c .if1 .taken)), left-kept (c .if1 .taken))))
     (λ c κs. search needs)
     (λ c. search needs)
-    (λ c. (rw (eq-eqb _ _ (c .before .before .before .before .if1 .left), ← c .before .before .read-in .ensures .answer, ← c .before .before .read-in .ensures .value) (omega arith), left-held (c .before .before .before .before .if1 .left) (c .before .before .read-in .ensures .holds))))
+    (λ c. let size = c .before .before .before .before .if1 .left in
+    let read = c .before .before .read-in .ensures in
+    (rw (eq-eqb _ _ size) (read .number), (rw (eq-eqb _ _ size) (read .value), left-held size (read .holds)))))

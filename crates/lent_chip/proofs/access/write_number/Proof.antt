@@ -12,4 +12,4 @@ write-number-spec =
     (λ c. (rw (ne-eqb _ _ (c .if1 .taken)), left-kept (c .if1 .taken)))
     (λ c κs. search needs)
     (λ c. search needs)
-    (λ c. (rw (eq-eqb _ _ (c .before .before .before .before .if1 .left)) (c .before .before .write-in .ensures .answer), left-held (c .before .before .before .before .if1 .left) (c .before .before .write-in .ensures .holds))))
+    (λ c. (rw (eq-eqb _ _ (c .before .before .before .before .if1 .left)) (c .before .before .write-in .ensures .number), left-held (c .before .before .before .before .if1 .left) (c .before .before .write-in .ensures .holds))))

@@ -1,11 +1,11 @@
 -- At blue, at green, and elsewhere.
 use borrow.Author.Tests.{ne-eqb}
 use borrow.Author.Needs.{needs}
-use Rattle.chip.proofs.Loading.step.Statement.{statement}
-use Rattle.chip.proofs.Loading.step.Tie as tie
+use Rattle.chip.proofs.Loading.move_on.Statement.{statement}
+use Rattle.chip.proofs.Loading.move_on.Tie as tie
 
-pub step-spec : {M : Type 1} → statement M
-step-spec =
+pub move-on-spec : {M : Type 1} → statement M
+move-on-spec =
     tie.close
     (tie.spec
     (λ c κs. search needs)

@@ -7,16 +7,16 @@ use native.Mathlib.Omega.{arith}
 use Rattle.script_commands.specs.Translation.{leftBy}
 use Rattle.script_commands.specs.declared.Translated.{Translated}
 use Rattle.chip_play.proofs.Playing.{commands-fit, front-fits, front-commands}
-use Rattle.lent_play.proofs.Performing.{perform-answered, undone, unplayed, driven, not-length, buffered}
+use Rattle.lent_play.proofs.Playing.{play-answered, undone, unplayed, run-played, not-length, buffered}
 use borrow.Author.Needs.{needs}
-use Rattle.lent_play.proofs.perform.Statement.{statement}
-use Rattle.lent_play.proofs.perform.Tie as tie
+use Rattle.lent_play.proofs.play.Statement.{statement}
+use Rattle.lent_play.proofs.play.Tie as tie
 
-pub perform-spec : {M : Type 1} → statement M
-perform-spec =
+pub play-spec : {M : Type 1} → statement M
+play-spec =
     tie.close
     (tie.spec
-    (λ c. let d = undone (c .before .before .before .before .args .state .now) (c .before .before .before .before .args .file .now) (length (c .before .before .before .before .args .buffer .now)) (c .if1 .taken) in perform-answered d (rw (ne-eqb _ _ (c .if1 .taken)) refl))
+    (λ c. let d = undone (c .before .before .before .before .args .state .now) (c .before .before .before .before .args .file .now) (length (c .before .before .before .before .args .buffer .now)) (c .if1 .taken) in play-answered d (rw (ne-eqb _ _ (c .if1 .taken)) refl))
     (λ c κs. search needs)
     (λ c. search needs)
     (λ c. search needs)
@@ -28,13 +28,13 @@ perform-spec =
     (λ c. search needs)
     (λ c. search needs)
     (λ c. let d = unplayed (c .before .before .before .before .before .before .before .before .before .before .before .args .state .now) (c .before .before .before .before .before .before .before .before .before .before .before .args .file .now) (length (c .before .before .before .before .before .before .before .before .before .before .before .args .buffer .now)) (c .before .before .before .before .before .before .before .if1 .left) (sym (c .before .before .before .before .before .translate .ensures .0) ∙ c .before .why .given .1) in
-    perform-answered d (buffered (c .before .before .before .before .before .before .before .before .before .before .before .args .state .now) (c .before .before .before .before .before .before .before .before .before .before .before .args .file .now) (c .before .before .before .before .before .before .before .before .before .before .before .args .buffer .now) (c .before .before .before .before .before .before .before .if1 .left) (c .before .before .before .before .before .translate .ensures .0) (c .before .before .before .before .before .translate .ensures .1 .0)))
+    play-answered d (buffered (c .before .before .before .before .before .before .before .before .before .before .before .args .state .now) (c .before .before .before .before .before .before .before .before .before .before .before .args .file .now) (c .before .before .before .before .before .before .before .before .before .before .before .args .buffer .now) (c .before .before .before .before .before .before .before .if1 .left) (c .before .before .before .before .before .translate .ensures .0) (c .before .before .before .before .before .translate .ensures .1 .0)))
     (λ c. search needs)
     (λ c. search needs)
     (λ c. let is = sym (c .before .before .before .before .before .before .before .before .before .before .before .before .before .translate .ensures .0) ∙ c .before .before .before .before .before .before .before .before .before .k .given .1 in
     let left = c .before .before .before .before .before .before .before .before .before .before .before .before .before .translate .ensures .1 .0 ∙ ap (λ (t : Translated). leftBy t (c .before .before .before .before .before .before .before .before .before .before .before .before .before .before .before .before .before .before .before .args .file .now) (c .before .before .before .before .before .before .before .before .before .before .before .before .before .before .before .before .before .before .before .args .buffer .now)) (c .before .before .before .before .before .before .before .before .before .k .given .1) in
-    let d = driven (c .before .before .before .before .before .before .before .before .before .before .before .before .before .before .before .before .before .before .before .args .state .now) (c .before .before .before .before .before .before .before .before .before .before .before .before .before .before .before .before .before .before .before .args .file .now) (length (c .before .before .before .before .before .before .before .before .before .before .before .before .before .before .before .before .before .before .before .args .buffer .now)) (c .before .before .before .before .before .before .before .before .before .before .before .before .before .before .before .if1 .left) is (front-commands (c .before .before .before .before .before .before .before .before .before .before .before .before .before .before .before .before .before .before .before .args .file .now) (c .before .before .before .before .before .before .before .before .before .before .before .before .before .before .before .before .before .before .before .args .buffer .now) _ is left) (c .before .before .before .before .before .drive .ensures .0) (c .before .before .before .before .before .drive .ensures .1 .0) (c .before .n .given .1) in
-    perform-answered d (buffered (c .before .before .before .before .before .before .before .before .before .before .before .before .before .before .before .before .before .before .before .args .state .now) (c .before .before .before .before .before .before .before .before .before .before .before .before .before .before .before .before .before .before .before .args .file .now) (c .before .before .before .before .before .before .before .before .before .before .before .before .before .before .before .before .before .before .before .args .buffer .now) (c .before .before .before .before .before .before .before .before .before .before .before .before .before .before .before .if1 .left) (c .before .before .before .before .before .before .before .before .before .before .before .before .before .translate .ensures .0) (c .before .before .before .before .before .before .before .before .before .before .before .before .before .translate .ensures .1 .0)))
+    let d = run-played (c .before .before .before .before .before .before .before .before .before .before .before .before .before .before .before .before .before .before .before .args .state .now) (c .before .before .before .before .before .before .before .before .before .before .before .before .before .before .before .before .before .before .before .args .file .now) (length (c .before .before .before .before .before .before .before .before .before .before .before .before .before .before .before .before .before .before .before .args .buffer .now)) (c .before .before .before .before .before .before .before .before .before .before .before .before .before .before .before .if1 .left) is (front-commands (c .before .before .before .before .before .before .before .before .before .before .before .before .before .before .before .before .before .before .before .args .file .now) (c .before .before .before .before .before .before .before .before .before .before .before .before .before .before .before .before .before .before .before .args .buffer .now) _ is left) (c .before .before .before .before .before .run .ensures .0) (c .before .before .before .before .before .run .ensures .1 .0) (c .before .n .given .1) in
+    play-answered d (buffered (c .before .before .before .before .before .before .before .before .before .before .before .before .before .before .before .before .before .before .before .args .state .now) (c .before .before .before .before .before .before .before .before .before .before .before .before .before .before .before .before .before .before .before .args .file .now) (c .before .before .before .before .before .before .before .before .before .before .before .before .before .before .before .before .before .before .before .args .buffer .now) (c .before .before .before .before .before .before .before .before .before .before .before .before .before .before .before .if1 .left) (c .before .before .before .before .before .before .before .before .before .before .before .before .before .translate .ensures .0) (c .before .before .before .before .before .before .before .before .before .before .before .before .before .translate .ensures .1 .0)))
     (λ c. search needs)
     (λ c. search needs)
-    (λ c. absurd (not-length (c .before .before .before .before .before .before .before .before .before .before .before .before .before .before .before .before .before .before .args .state .now) _ _ (c .before .before .before .before .before .before .before .before .before .before .before .before .before .before .if1 .left) (c .before .before .before .before .drive .ensures .0) (c .enum-told .given .1))))
+    (λ c. absurd (not-length (c .before .before .before .before .before .before .before .before .before .before .before .before .before .before .before .before .before .before .args .state .now) _ _ (c .before .before .before .before .before .before .before .before .before .before .before .before .before .before .if1 .left) (c .before .before .before .before .run .ensures .0) (c .enum-told .given .1))))

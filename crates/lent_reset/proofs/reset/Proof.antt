@@ -2,11 +2,11 @@
 use borrow.Author.Tests.{eq-eqb, ne-eqb}
 use Rattle.lent_chip.proofs.Reached.{left-held, left-kept}
 use borrow.Author.Needs.{needs}
-use Rattle.lent_reset.proofs.restart.Statement.{statement}
-use Rattle.lent_reset.proofs.restart.Tie as tie
+use Rattle.lent_reset.proofs.reset.Statement.{statement}
+use Rattle.lent_reset.proofs.reset.Tie as tie
 
-pub restart-spec : {M : Type 1} → statement M
-restart-spec =
+pub reset-spec : {M : Type 1} → statement M
+reset-spec =
     tie.close
     (tie.spec
     (λ c. (rw (ne-eqb _ _ (c .if1 .taken)), left-kept (c .if1 .taken)))

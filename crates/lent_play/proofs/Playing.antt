@@ -26,30 +26,30 @@ use Rattle.lent_chip.specs.Accesses.{isState, Left}
 use Rattle.lent_chip.specs.Numbers.{noState}
 use Rattle.lent_chip.proofs.Holding.{as-it-is}
 use Rattle.lent_chip.proofs.Reached.{left-held, left-kept}
-use Rattle.lent_run.specs.Drive.{driveAnswer}
-use Rattle.lent_run.specs.declared.Driven.{Driven}
-use Rattle.lent_run.specs.declared.Driven.the-variants.{Ran as DrivenRan, Length as DrivenLength}
-use Rattle.lent_play.specs.Perform.{performAnswer, bufferLeft, ByNameIn, ofPerformed, performTable}
-use Rattle.lent_play.specs.declared.Performed.{Performed}
-use Rattle.lent_play.specs.declared.Performed.the-variants.{Met, Length}
+use Rattle.lent_run.specs.Run.{runAnswer}
+use Rattle.lent_run.specs.declared.LentRan.{LentRan}
+use Rattle.lent_run.specs.declared.LentRan.the-variants.{Ran as RanTo, Length as RunLength}
+use Rattle.lent_play.specs.Play.{playAnswer, bufferLeft, ByNameIn, ofLentPlayed, lentPlayTable}
+use Rattle.lent_play.specs.declared.LentPlayed.{LentPlayed}
+use Rattle.lent_play.specs.declared.LentPlayed.the-variants.{Met, Length}
 
 -- what the contract says of the answer and the state
-pub record Did (l file : List ℕ) (room : ℕ) (m : List ℕ) (r : Performed) : Type 0 where
-  pub answer : r ≡ performAnswer l file room
+pub record Did (l file : List ℕ) (room : ℕ) (m : List ℕ) (r : LentPlayed) : Type 0 where
+  pub answer : r ≡ playAnswer l file room
   pub left : Left l (played (view l) file room .chip) (spare l) m
   pub byName : ByNameIn l file room m r
 
 -- its number and value are those of the table
-perform-number : (l file : List ℕ) (room : ℕ) → ofPerformed (performAnswer l file room) ≡ performTable l file room
-perform-number l file room =
-    of-cond ofPerformed (isState l) (Met (played (view l) file room .outcome)) Length
+lent-play-number : (l file : List ℕ) (room : ℕ) → ofLentPlayed (playAnswer l file room) ≡ lentPlayTable l file room
+lent-play-number l file room =
+    of-cond ofLentPlayed (isState l) (Met (played (view l) file room .outcome)) Length
     ∙ ap (λ (x : Returned). cond (isState l) x (returned noState 0)) (played-number (view l) file room)
 
--- what the contract of `perform` says, from that and the buffer
-pub perform-answered : {l file : List ℕ} {room : ℕ} {m : List ℕ} {r : Performed} {out left : List ℕ} → Did l file room m r → out ≡ left
-    → (r ≡ performAnswer l file room) × (Left l (played (view l) file room .chip) (spare l) m × (ByNameIn l file room m r × ((out ≡ left) × (ofPerformed r ≡ performTable l file room))))
-perform-answered {l} {file} {room} d buffer =
-    (d .answer, (d .left, (d .byName, (buffer, ap ofPerformed (d .answer) ∙ perform-number l file room))))
+-- what the contract of `play` says, from that and the buffer
+pub play-answered : {l file : List ℕ} {room : ℕ} {m : List ℕ} {r : LentPlayed} {out left : List ℕ} → Did l file room m r → out ≡ left
+    → (r ≡ playAnswer l file room) × (Left l (played (view l) file room .chip) (spare l) m × (ByNameIn l file room m r × ((out ≡ left) × (ofLentPlayed r ≡ lentPlayTable l file room))))
+play-answered {l} {file} {room} d buffer =
+    (d .answer, (d .left, (d .byName, (buffer, ap ofLentPlayed (d .answer) ∙ lent-play-number l file room))))
 
 -- a state, with the outcome that `played` has
 module _ (l file : List ℕ) (room : ℕ) {m : List ℕ} (n : length l ≡ whole) (h : Holds m (played (view l) file room .chip) (spare l)) where
@@ -57,7 +57,7 @@ module _ (l file : List ℕ) (room : ℕ) {m : List ℕ} (n : length l ≡ whole
       → _≡_ {A = Performance} (played (view l) file room) (record { chip = view m; outcome = o })
   same o e = let f : played (view l) file room .outcome ≡ o = cc in λ i. record { chip = sym (h .chip) i; outcome = f i }
 
-  did : {r : Performed} {o : Outcome} → r ≡ Met o → o ≡ played (view l) file room .outcome → Did l file room m r
+  did : {r : LentPlayed} {o : Outcome} → r ≡ Met o → o ≡ played (view l) file room .outcome → Did l file room m r
   did e f =
       let a = e ∙ ap Met f in
       record {
@@ -75,11 +75,11 @@ undone l file room n = record {
 }
 
 -- the run of what the translation left
-module _ (l file : List ℕ) (room : ℕ) {m bytes : List ℕ} {k : ℕ} {x : Driven} (n : length l ≡ whole) (is : translated file room ≡ Commands k)
-    (front : bytes ≡ bytesOfAll (commandsTo file (stepCount file))) (answer : x ≡ driveAnswer l bytes k)
+module _ (l file : List ℕ) (room : ℕ) {m bytes : List ℕ} {k : ℕ} {x : LentRan} (n : length l ≡ whole) (is : translated file room ≡ Commands k)
+    (front : bytes ≡ bytesOfAll (commandsTo file (stepCount file))) (answer : x ≡ runAnswer l bytes k)
     (left : Left l (ran (view l) bytes k .chip) (spare l) m) where
-  pub driven : {count : ℕ} {e : Ending} → x ≡ DrivenRan count e → Did l file room m (Met (Played count e))
-  driven {count} {e} gave =
+  pub run-played : {count : ℕ} {e : Ending} → x ≡ RanTo count e → Did l file room m (Met (Played count e))
+  run-played {count} {e} gave =
       let s = eq-eqb (length l) whole n in
       let c : count ≡ ran (view l) bytes k .count = cc (rw s at answer) in
       let d : e ≡ ran (view l) bytes k .ending = cc (rw s at answer) in
@@ -87,7 +87,7 @@ module _ (l file : List ℕ) (room : ℕ) {m bytes : List ℕ} {k : ℕ} {x : Dr
       did l file room n (rw (← same) (left .held n)) refl (rw (c, d) (ap (λ (p : Performance). p .outcome) same))
 
 -- on a state the run is never refused for its length
-pub not-length : (l bytes : List ℕ) (k : ℕ) {x : Driven} → length l ≡ whole → x ≡ driveAnswer l bytes k → x ≡ DrivenLength → ⊥
+pub not-length : (l bytes : List ℕ) (k : ℕ) {x : LentRan} → length l ≡ whole → x ≡ runAnswer l bytes k → x ≡ RunLength → ⊥
 not-length l bytes k n answer gave = let s = eq-eqb (length l) whole n in let z : _≡_ {A = ℕ} 0 1 = cc (rw s at answer) in omega arith
 
 -- a refused file

@@ -4,12 +4,12 @@ use Rattle.lent_chip.specs.Layout.{view, cell}
 use Rattle.lent_chip.proofs.Holding.{as-it-is, now-holds, then-single}
 use native.Mathlib.Omega.{arith}
 use borrow.Author.Needs.{needs}
-use Rattle.lent_chip.proofs.step.Statement.{statement}
-use Rattle.lent_chip.proofs.step.Tie as tie
+use Rattle.lent_chip.proofs.move_on.Statement.{statement}
+use Rattle.lent_chip.proofs.move_on.Tie as tie
 
-pub step-spec : {M : Type 1} → statement M
+pub move-on-spec : {M : Type 1} → statement M
 unfolding view cell
-step-spec =
+move-on-spec =
     tie.close
     (tie.spec
     (λ c. search needs)

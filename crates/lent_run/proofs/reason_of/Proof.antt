@@ -1,10 +1,11 @@
 -- By the number.
 use borrow.Author.Tests.{ne-eqb}
-use Rattle.lent_chip.proofs.access.answer_of.Statement.{statement}
-use Rattle.lent_chip.proofs.access.answer_of.Tie as tie
+use borrow.Author.Needs.{needs}
+use Rattle.lent_run.proofs.reason_of.Statement.{statement}
+use Rattle.lent_run.proofs.reason_of.Tie as tie
 
-pub answer-of-spec : {M : Type 1} → statement M
-answer-of-spec =
+pub reason-of-spec : {M : Type 1} → statement M
+reason-of-spec =
     tie.close
     (tie.spec
     (λ c. rw (c .match .keys1))
