@@ -14,7 +14,7 @@ use borrow.Author.Tests.{ltb-true}
 use Rattle.lists.specs.Scan.{every}
 use Rattle.lists.proofs.Tests.{and-both}
 use Rattle.blit_raster.specs.Raster.{raster, usesSource, usesPattern}
-use Rattle.blit_raster.specs.Laws.{AAh-destination, CCh-source}
+use Rattle.blit_raster.proofs.Laws.{AAh-destination, CCh-source}
 use Rattle.blit_frame.specs.declared.Area.{Area}
 use Rattle.blit_frame.specs.declared.Transfer.{Transfer}
 use Rattle.memory.specs.Memory.{lengthAllowed}
@@ -90,8 +90,8 @@ withSource a t =
       code = t .code;
       leftward = t .leftward;
       upward = t .upward;
-      pattern = t .pattern;
-      row = t .row;
+      «pattern_address» = t .«pattern_address»;
+      «pattern_row» = t .«pattern_row»;
     }
 
 abbrev pub withPattern : ℕ → ℕ → Transfer → Transfer
@@ -104,8 +104,8 @@ withPattern p q t =
       code = t .code;
       leftward = t .leftward;
       upward = t .upward;
-      pattern = p;
-      row = q;
+      «pattern_address» = p;
+      «pattern_row» = q;
     }
 
 -- two transfers of one width and height, each of whose bytes is the same, are the same
@@ -187,7 +187,8 @@ module _ (m : List ℕ) (t : Transfer) (ok : accepted (length m) t ≡ true) (on
       let d = and-both (everyByte t (within (length m) t (t .destination))) _ (and-both _ _ g .0) .0 in
       ltb-true _ _ (and-both (leb (behind t (t .destination) r c) (t .destination .address + ahead t (t .destination) r c)) _ (bytes-at t (within (length m) t (t .destination)) r c hr hc d) .1)
 
-  -- where no byte is written twice or read after it was written, each destination byte becomes the raster byte of the memory as it was
+  -- where no byte is written twice or read after it was written, each destination byte becomes the raster byte of the memory as
+  -- it was
   pub byte-becomes : getD (transferred m t) (place t (t .destination) r c) 0 ≡ raster (t .code) (patternByte t r c m) (sourceByte t r c m) (destinationByte t r c m)
   unfolding transferred linesDone lineDone byteDone before
   byte-becomes =

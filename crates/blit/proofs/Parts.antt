@@ -30,7 +30,7 @@ module _ (low : ℕ) (u : ℕ → ℕ) (m m′ : List ℕ) (x v : ℕ) (hx : x <
             ⊎-elim
             (λ q.
             let z : low + k ≡ x = omega arith in
-            let hx′ : x < length m′ = omega (arith, P .same) in
+            let hx′ : x < length m′ = omega arith in
             ap (λ (y : ℕ). getD (set m′ x v) y 0) z ∙ getD-set-same m′ x v 0 hx′ ∙ ev ∙ ap u (sym q))
             (λ q. getD-set-other m′ x (low + k) v 0 (λ z. omega arith) ∙ P .done k h q) (eq-or-lt-of-le (le-of-suc-le-suc (rw add-one at l)));
         below = λ y h. getD-set-other m′ x y v 0 (λ z. omega arith) ∙ P .below y h;
@@ -45,7 +45,7 @@ module _ (low : ℕ) (u : ℕ → ℕ) (m m′ : List ℕ) (x v : ℕ) (hx : x <
             ⊎-elim
             (λ q.
             let z : low + k ≡ x = omega arith in
-            let hx′ : x < length m′ = omega (arith, P .same) in
+            let hx′ : x < length m′ = omega arith in
             ap (λ (y : ℕ). getD (set m′ x v) y 0) z ∙ getD-set-same m′ x v 0 hx′ ∙ ev ∙ ap u q)
             (λ q. getD-set-other m′ x (low + k) v 0 (λ z. omega arith) ∙ P .done k q l) (eq-or-lt-of-le h);
         below = λ y h. getD-set-other m′ x y v 0 (λ z. omega arith) ∙ P .below y (omega arith);

@@ -1,5 +1,5 @@
--- Laws of `inTurn`, the first n of some changes to a memory: what each keeps all keep, and what one makes stays where no later one
--- changes it. Assumes nothing.
+-- Laws of `inTurn`, the first n of some changes to a memory: what each keeps all keep, and what one makes stays where no later
+-- one changes it. Assumes nothing.
 use mathlib.Core.Path.{_≡_, refl, ap, _∙_}
 use mathlib.Core.List.{List}
 use mathlib.Core.Logic.{⊎-elim}

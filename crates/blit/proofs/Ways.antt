@@ -2,7 +2,7 @@
 -- What the copies of pattern and source hold comes as a premise; an operand that is not used may be anything. A line in pieces
 -- is a line of each piece, one after the other. Assumes nothing.
 use mathlib.Core.Path.{_≡_, refl, sym, ap, _∙_}
-use mathlib.Core.Bool.{Bool, true, false, cond, not, _&&_, true≢false}
+use mathlib.Core.Bool.{Bool, true, false, cond}
 use mathlib.Core.List.{List}
 use mathlib.Core.Logic.{inl, inr, ⊎-elim}
 use Prim.Native.Nat.{ℕ, _+_, _-_, _%_, _≤_, _<_}
@@ -10,19 +10,13 @@ use native.Mathlib.Omega.{arith}
 use lib.ListN.{length, getD}
 use Rattle.lists.specs.Scan.{every}
 use Rattle.blit_raster.specs.Raster.{raster, usesSource}
-use Rattle.blit_raster.specs.Laws.{CCh-source, raster-no-source}
+use Rattle.blit_raster.proofs.Laws.{CCh-source, raster-no-source}
 use Rattle.blit.specs.Transfer.{inTurn}
 use Rattle.blit.proofs.Turns.{in-turn-same, in-turn-more}
 use Rattle.blit_frame.specs.Lines.{byteAt}
 use Rattle.blit.specs.Working.{Part, SourceStill, PatternStill, lineByte, bytesFrom, plainByte, blendedByte, takenByte, becomes}
 use Rattle.blit.proofs.Parts.{part-as, part-unique, front, when, less-or-equal}
 use Rattle.blit.proofs.Line.{line-part}
-
--- the first test of `line`: the pattern is still, if it is used
-pub free : (pattern b : Bool) → pattern && not b ≡ false → pattern ≡ true → b ≡ true
-free true true h e = refl
-free true false h e = absurd (true≢false h)
-free false b h e = absurd (true≢false (sym e))
 
 -- a source that is not used may be anything
 anyway : (code : ℕ) (source : Bool) (p x d : ℕ) → source ≡ usesSource code → raster code p x d ≡ raster code p (cond source x 0) d
@@ -45,30 +39,33 @@ piece-part code pattern d s p w m m′ pat b₀ b tiled T =
       front (bytesFrom s m) w b₀ b T k h,
     ))
 
-module _ (code : ℕ) (source pattern left : Bool) (d s p w : ℕ) (m m′ : List ℕ) (fits : d + w ≤ length m)
-    (first : SourceStill left d s w) (still : pattern ≡ true → PatternStill (length m) d p w) (su : source ≡ usesSource code) where
-  by-bytes : (u : ℕ → ℕ) → ((k : ℕ) → k < w → u k ≡ becomes code source pattern d s p m k) → Part d u 0 w m m′
-      → m′ ≡ inTurn w (lineByte code source pattern left d s p w) m
-  by-bytes u e P =
-      part-unique d (becomes code source pattern d s p m) w m m′ (inTurn w (lineByte code source pattern left d s p w) m)
-      (part-as d u (becomes code source pattern d s p m) w m m′ e P) (line-part code source pattern d s p w m fits still left first)
+module _ (code : ℕ) (source pattern : Bool) (d s p w : ℕ) (m m′ : List ℕ) where
+  -- where the line reads nothing that it has written, that is the definition's memory
+  pub still-done : (left : Bool) → d + w ≤ length m → SourceStill left d s w → (pattern ≡ true → PatternStill (length m) d p w)
+      → Part d (becomes code source pattern d s p m) 0 w m m′ → m′ ≡ inTurn w (lineByte code source pattern left d s p w) m
+  still-done left fits first still P =
+      part-unique d (becomes code source pattern d s p m) w m m′ (inTurn w (lineByte code source pattern left d s p w) m) P
+      (line-part code source pattern d s p w m fits still left first)
 
-  pub copied : code ≡ 0xCC → ((k : ℕ) → k < w → getD m (s + k) 0 < 256) → Part d (bytesFrom s m) 0 w m m′
-      → m′ ≡ inTurn w (lineByte code source pattern left d s p w) m
-  unfolding every usesSource
-  copied e small P =
-      let so : source ≡ true = su ∙ ap usesSource e in
-      by-bytes (bytesFrom s m) (λ k h. rw (so, e) (sym (CCh-source _ (getD m (s + k) 0) (getD m (d + k) 0) (small k h)))) P
+  module _ (su : source ≡ usesSource code) where
+    by-bytes : (u : ℕ → ℕ) → ((k : ℕ) → k < w → u k ≡ becomes code source pattern d s p m k) → Part d u 0 w m m′ → Part d (becomes code source pattern d s p m) 0 w m m′
+    by-bytes u = part-as d u (becomes code source pattern d s p m) w m m′
 
-  pub blended-taken : Part d (becomes code true pattern d s p m) 0 w m m′ → m′ ≡ inTurn w (lineByte code source pattern left d s p w) m
-  blended-taken = by-bytes _ (λ k h. anyway code source _ (getD m (s + k) 0) (getD m (d + k) 0) su)
+    pub copied : code ≡ 0xCC → ((k : ℕ) → k < w → getD m (s + k) 0 < 256) → Part d (bytesFrom s m) 0 w m m′ → Part d (becomes code source pattern d s p m) 0 w m m′
+    unfolding every usesSource
+    copied e small =
+        let so : source ≡ true = su ∙ ap usesSource e in
+        by-bytes (bytesFrom s m) (λ k h. rw (so, e) (sym (CCh-source _ (getD m (s + k) 0) (getD m (d + k) 0) (small k h))))
 
-  pub blended : pattern ≡ true → (pat : List ℕ) → ((x : ℕ) → x < d % 8 + w → getD pat x 0 ≡ getD m (p + x % 8) 0)
-      → Part d (blendedByte code source d s (d % 8) pat m) 0 w m m′ → m′ ≡ inTurn w (lineByte code source pattern left d s p w) m
-  blended e pat tiled = by-bytes _ (λ k h. rw (tiled-byte d p w m pat tiled k h, e))
+    pub blended-taken : Part d (becomes code true pattern d s p m) 0 w m m′ → Part d (becomes code source pattern d s p m) 0 w m m′
+    blended-taken = by-bytes _ (λ k h. anyway code source _ (getD m (s + k) 0) (getD m (d + k) 0) su)
 
-  pub blended-plain : pattern ≡ false → Part d (plainByte code d s m) 0 w m m′ → m′ ≡ inTurn w (lineByte code source pattern left d s p w) m
-  blended-plain e = by-bytes _ (λ k h. rw e (anyway code source 0 (getD m (s + k) 0) (getD m (d + k) 0) su))
+    pub blended : pattern ≡ true → (pat : List ℕ) → ((x : ℕ) → x < d % 8 + w → getD pat x 0 ≡ getD m (p + x % 8) 0)
+        → Part d (blendedByte code source d s (d % 8) pat m) 0 w m m′ → Part d (becomes code source pattern d s p m) 0 w m m′
+    blended e pat tiled = by-bytes _ (λ k h. rw (tiled-byte d p w m pat tiled k h, e))
+
+    pub blended-plain : pattern ≡ false → Part d (plainByte code d s m) 0 w m m′ → Part d (becomes code source pattern d s p m) 0 w m m′
+    blended-plain e = by-bytes _ (λ k h. rw e (anyway code source 0 (getD m (s + k) 0) (getD m (d + k) 0) su))
 
 -- ---- a line in pieces
 
@@ -96,7 +93,8 @@ module _ (code : ℕ) (pattern left : Bool) (d s p w k : ℕ) (m₀ m m′ : Lis
         whole = omega (arith, still q .whole);
         apart = ⊎-elim (λ z. inl (omega arith)) (λ z. inr (omega arith)) (still q .apart);
       } in
-      blended-taken code (usesSource code) pattern left (d + o) (s + o) p n m m′ (omega arith) (piece-still left d s k o n hk first) still′ refl P
+      still-done code (usesSource code) pattern (d + o) (s + o) p n m m′ left (omega arith) (piece-still left d s k o n hk first) still′
+      (blended-taken code (usesSource code) pattern (d + o) (s + o) p n m m′ refl P)
       ∙ sym (in-turn-same n (λ i m. lineByte code (usesSource code) pattern left d s p w (c + i) m) (lineByte code (usesSource code) pattern left (d + o) (s + o) p n)
       (λ i l m. rw (ho, piece-at left d w c n i hc l, piece-at left s w c n i hc l)) m)
       ∙ ap (inTurn n (λ i m. lineByte code (usesSource code) pattern left d s p w (c + i) m)) e

@@ -1,5 +1,5 @@
--- What a block transfer of document 01, "Video memory and block transfers", does to the memory, one byte at a time. Where its bytes lie
--- and when it is done is said in crate blit_frame; the raster code is the crate blit_raster's.
+-- What a block transfer of document 01, "Video memory and block transfers", does to the memory, one byte at a time. Where its
+-- bytes lie and when it is done is said in crate blit_frame; the raster code is the crate blit_raster's.
 use Prim.Native.Nat.{ℕ, zero, suc}
 use mathlib.Core.Bool.{cond}
 use mathlib.Core.List.{List}
@@ -8,7 +8,8 @@ use Rattle.blit_raster.specs.Raster.{raster, usesSource, usesPattern}
 use Rattle.blit_frame.specs.Frame.{place, patternPlace, accepted}
 use Rattle.blit_frame.specs.declared.Transfer.{Transfer}
 
--- the operands of byte c of line r, in the memory as it then stands; one on which the code does not depend is not looked at
+-- the operands of byte c of line r, in the memory as it then stands (HOUSE); one on which the code does not depend is not
+-- looked at
 abbrev pub patternByte : Transfer → ℕ → ℕ → List ℕ → ℕ
 patternByte t r c m = cond (usesPattern (t .code)) (getD m (patternPlace t r c) 0) 0
 

@@ -1,4 +1,5 @@
--- For the contracts of private functions alone: nothing here has to be believed. A line is given as in blit_frame's Lines; `Part` says of two memories that one is the other with a stretch filled in.
+-- For the contracts of private functions alone: nothing here has to be believed. A line is given as in blit_frame's Lines; `Part`
+-- says of two memories that one is the other with a stretch filled in.
 use mathlib.Core.Path.{_≡_}
 use mathlib.Core.Bool.{Bool, true, false, cond}
 use mathlib.Core.Logic.{_⊎_}
@@ -17,9 +18,17 @@ lineByte code source pattern left d s p w c m =
     (raster code (cond pattern (getD m (p + byteAt left d w c % 8) 0) 0) (cond source (getD m (byteAt left s w c) 0) 0)
     (getD m (byteAt left d w c) 0))
 
--- the lowest address of line r of the source or, for want of one, of the destination again; the pattern's eight bytes
+-- how many lines lie below line r; the lowest is line `linesBelow t 0`
+abbrev pub linesBelow : Transfer → ℕ → ℕ
+linesBelow t r = cond (t .upward) (t .height - 1 - r) r
+
+-- the lowest address of line r of the source, and its span, or, for want of a source, those of the destination again; the
+-- pattern's eight bytes
 abbrev pub sourceLow : Transfer → ℕ → ℕ
 sourceLow t r = cond (usesSource (t .code)) (lineLow t (t .source) r) (lineLow t (t .destination) r)
+
+abbrev pub sourceSpan : Transfer → ℕ
+sourceSpan t = cond (usesSource (t .code)) (t .source .span) (t .destination .span)
 
 abbrev pub patternFirst : Transfer → ℕ → ℕ
 patternFirst t r = cond (usesPattern (t .code)) (patternLine t r) 0

@@ -1,6 +1,6 @@
-// Block transfers: document 01, "Video memory and block transfers"; databook, chapter 17 and appendix E. A transfer over a lent memory of
-// any length, with numbers of any value: an equation with crate blit_frame's specs/Frame and with specs/Transfer; a refusal changes no byte.
-// Whether it is done is judged by blit_frame, its lines are done in `lines`.
+// Block transfers: document 01, "Video memory and block transfers"; databook, chapter 17 and appendix E. A transfer over a lent
+// memory of any length, with numbers of any value: an equation with crate blit_frame's specs/Frame and with specs/Transfer; a
+// refusal changes no byte. Whether it is done is judged by blit_frame, its lines are done in `lines`.
 
 ghost use mathlib.Core.Path.{_≡_};
 ghost use lib.ListN.{length};

@@ -10,9 +10,9 @@ ghost use mathlib.Core.Logic.{_⊎_};
 ghost use lib.ListN.{length, getD};
 ghost use Rattle.blit_raster.specs.Raster.{usesSource, usesPattern};
 ghost use Rattle.blit_frame.specs.Frame.{accepted};
-ghost use Rattle.blit_frame.specs.Lines.{byteAt, lowOf, patternLow};
-ghost use Rattle.blit.specs.Transfer.{inTurn, linesDone};
-ghost use Rattle.blit.specs.Working.{Part, Apart, SourceStill, PatternStill};
+ghost use Rattle.blit_frame.specs.Lines.{byteAt, lowOf, lineLow, patternLow};
+ghost use Rattle.blit.specs.Transfer.{inTurn, lineDone, linesDone};
+ghost use Rattle.blit.specs.Working.{Part, Apart, SourceStill, PatternStill, sourceLow, linesBelow};
 ghost use Rattle.blit.specs.Working.{lineByte, bytesFrom, plainByte, blendedByte, takenByte, becomes};
 use blit_frame::Transfer;
 use blit_frame::least;
@@ -100,8 +100,8 @@ fn blend_plain(mem: &mut [u8], code: u8, d: usize, s: usize, w: usize)
     }
 }
 
-// The same. With the code known the compiler makes a loop of what is left of its terms, so each code that looks at no pattern has one.
-// CCh does not come here.
+// The same. With the code known the compiler makes a loop of what is left of its terms, so each code that looks at no pattern
+// has one. CCh does not come here.
 fn blend_known(mem: &mut [u8], code: u8, d: usize, s: usize, w: usize)
     requires { ⌜ (d + w ≤ length (now mem)) × (s + w ≤ length (now mem)) ⌝ }
     requires { ⌜ (Apart d s w) ⊎ (s ≡ d) ⌝ }
@@ -285,11 +285,14 @@ fn source_still(left: bool, d: usize, s: usize, w: usize) -> bool
     (d <= s) | (s + w <= d)
 }
 
-// The line writes none of its pattern's eight bytes, which all lie in memory.
-fn pattern_still(n: usize, d: usize, p: usize, w: usize) -> bool
+// The line writes none of its pattern's eight bytes, which all lie in memory, if there is a pattern.
+fn pattern_still(pattern: bool, n: usize, d: usize, p: usize, w: usize) -> bool
     requires { ⌜ (d + w < 2 ^ 63) × (p < 2 ^ 62) ⌝ }
-    ensures { λ r. ⌜ (r ≡ true → PatternStill n d p w) ⌝ }
+    ensures { λ r. ⌜ (r ≡ true → pattern ≡ true → PatternStill n d p w) ⌝ }
 {
+    if !pattern {
+        return true;
+    }
     (p + 8 <= n) & ((p + 8 <= d) | (d + w <= p))
 }
 
@@ -367,6 +370,41 @@ fn pieces(
     }
 }
 
+// A line that reads nothing that it has written, by the quickest way.
+fn still_line(
+    mem: &mut [u8],
+    pat: &mut [u8],
+    src: &mut [u8],
+    code: u8,
+    source: bool,
+    pattern: bool,
+    d: usize,
+    s: usize,
+    p: usize,
+    w: usize,
+)
+    requires { ⌜ (d + w ≤ length (now mem)) × (s + w ≤ length (now mem)) × (length (now mem) < 2 ^ 62) × (w ≤ 8191) ⌝ }
+    requires { ⌜ (w + 8 ≤ length (now pat)) × (16 ≤ length (now pat)) × (w ≤ length (now src)) ⌝ }
+    requires { ⌜ (pattern ≡ true → p + 8 ≤ length (now mem)) ⌝ }
+    requires { ⌜ (source ≡ usesSource code) × (source ≡ false → s ≡ d) ⌝ }
+    ensures { λ r. ⌜ Part d (becomes code source pattern d s p (now (mem .entry))) 0 w (now (mem .entry)) (now (mem .exit)) ⌝ }
+{
+    if code == 0xCC {
+        copy(mem, d, s, w);
+        return;
+    }
+    if !apart(source, d, s, w) {
+        piece(mem, pat, src, code, pattern, d, s, p, w);
+        return;
+    }
+    if pattern {
+        tile(mem, pat, true, p, d % 8 + w);
+        blend_filled(mem, pat, code, source, d, s, d % 8, w);
+        return;
+    }
+    blend_known(mem, code, d, s, w);
+}
+
 // A line, by the quickest way that it allows.
 fn line(
     mem: &mut [u8],
@@ -384,39 +422,44 @@ fn line(
     requires { ⌜ (d + w ≤ length (now mem)) × (s + w ≤ length (now mem)) × (length (now mem) < 2 ^ 62) × (p < 2 ^ 62) × (w ≤ 8191) ⌝ }
     requires { ⌜ (w + 8 ≤ length (now pat)) × (16 ≤ length (now pat)) × (w ≤ length (now src)) ⌝ }
     requires { ⌜ ((c : ℕ) → c < w → p + byteAt left d w c % 8 < length (now mem)) ⌝ }
-    requires { ⌜ (source ≡ usesSource code) × (pattern ≡ usesPattern code) × (source ≡ false → s ≡ d) ⌝ }
+    requires { ⌜ (source ≡ usesSource code) × (source ≡ false → s ≡ d) ⌝ }
     ensures { λ r. ⌜ now (mem .exit) ≡ inTurn w (lineByte code source pattern left d s p w) (now (mem .entry)) ⌝ }
 {
-    if pattern & !pattern_still(mem.len(), d, p, w) {
+    if !pattern_still(pattern, mem.len(), d, p, w) {
         one_by_one(mem, code, source, pattern, left, d, s, p, w);
         return;
     }
-    if !source_still(left, d, s, w) {
-        let k = gap(d, s);
-        if k < 32 {
-            one_by_one(mem, code, source, pattern, left, d, s, p, w);
-            return;
-        }
-        pieces(mem, pat, src, code, pattern, left, d, s, p, w, k);
+    if source_still(left, d, s, w) {
+        still_line(mem, pat, src, code, source, pattern, d, s, p, w);
         return;
     }
-    if code == 0xCC {
-        copy(mem, d, s, w);
+    let k = gap(d, s);
+    if k < 32 {
+        one_by_one(mem, code, source, pattern, left, d, s, p, w);
         return;
     }
-    if !apart(source, d, s, w) {
-        piece(mem, pat, src, code, pattern, d, s, p, w);
-        return;
-    }
-    if pattern {
-        tile(mem, pat, true, p, d % 8 + w);
-        blend_filled(mem, pat, code, source, d, s, d % 8, w);
-        return;
-    }
-    blend_known(mem, code, d, s, w);
+    pieces(mem, pat, src, code, pattern, left, d, s, p, w, k);
 }
 
-// The lowest address of a line's source or, for want of one, of its destination again.
+// ---- The lines of a transfer, each from where the lowest one lies.
+
+// How many of h lines lie below line r. The lowest line is the one whose number is what this is of line 0.
+fn lines_below(up: bool, h: usize, r: usize) -> usize
+    requires { ⌜ r < h ⌝ }
+    ensures { λ res. ⌜ (res ≡ cond up (h - 1 - r) r) × (res < h) ⌝ }
+{
+    if up { h - 1 - r } else { r }
+}
+
+// Where the line with k lines below it lies.
+fn low_above(low: usize, span: usize, k: usize) -> usize
+    requires { ⌜ (low < 2 ^ 62) × (span ≤ 8191) × (k ≤ 8191) ⌝ }
+    ensures { λ r. ⌜ r ≡ low + k * span ⌝ }
+{
+    low + k * span
+}
+
+// The lowest address of a line's source or, for want of one, of its destination again; and the span of either.
 fn source_low(t: Transfer, source: bool, r: usize, d: usize) -> usize
     ensures { λ res. ⌜ res ≡ cond source (lowOf (t .leftward) (t .upward) (t .source .address % 2 ^ 32) (t .source .span % 2 ^ 32) (t .width % 2 ^ 32) (r % 2 ^ 32)) d ⌝ }
 {
@@ -426,14 +469,60 @@ fn source_low(t: Transfer, source: bool, r: usize, d: usize) -> usize
     d
 }
 
+fn source_span(t: Transfer, source: bool) -> usize
+    ensures { λ r. ⌜ r ≡ cond source (t .source .span) (t .destination .span) ⌝ }
+{
+    if source {
+        return t.source.span;
+    }
+    t.destination.span
+}
+
 // The first of a line's eight pattern bytes, 0 for want of a pattern.
 fn pattern_low(t: Transfer, pattern: bool, r: usize) -> usize
-    ensures { λ res. ⌜ (res ≡ cond pattern (patternLow (t .upward) (t .pattern % 2 ^ 32) (t .row) r) 0) × (res < 2 ^ 33) ⌝ }
+    ensures { λ res. ⌜ (res ≡ cond pattern (patternLow (t .upward) (t .«pattern_address» % 2 ^ 32) (t .«pattern_row») r) 0) × (res < 2 ^ 33) ⌝ }
 {
     if pattern {
         return pattern_line(t, r);
     }
     0
+}
+
+// Line r, where the lowest line lies at dlow and its source at slow.
+fn one_line(
+    mem: &mut [u8],
+    pat: &mut [u8],
+    src: &mut [u8],
+    t: Transfer,
+    source: bool,
+    pattern: bool,
+    dlow: usize,
+    slow: usize,
+    r: usize,
+)
+    requires { ⌜ accepted (length (now mem)) t ≡ true ⌝ }
+    requires { ⌜ (t .width + 8 ≤ length (now pat)) × (16 ≤ length (now pat)) × (t .width ≤ length (now src)) ⌝ }
+    requires { ⌜ (source ≡ usesSource (t .code)) × (pattern ≡ usesPattern (t .code)) × (r < t .height) ⌝ }
+    requires { ⌜ (dlow ≡ lineLow t (t .destination) (linesBelow t 0)) × (slow ≡ sourceLow t (linesBelow t 0)) ⌝ }
+    ensures { λ _. ⌜ now (mem .exit) ≡ lineDone t r (now (mem .entry)) ⌝ }
+{
+    let k = lines_below(t.upward, t.height, r);
+    let d = low_above(dlow, t.destination.span, k);
+    let s = low_above(slow, source_span(t, source), k);
+    let p = pattern_low(t, pattern, r);
+    line(
+        mem,
+        pat,
+        src,
+        t.code,
+        source,
+        pattern,
+        t.leftward,
+        d,
+        s,
+        p,
+        t.width,
+    );
 }
 
 // The lines, one after the other.
@@ -445,25 +534,12 @@ fn all_lines(mem: &mut [u8], pat: &mut [u8], src: &mut [u8], t: Transfer)
     let source = blit_raster::uses_source(t.code);
     let pattern = blit_raster::uses_pattern(t.code);
     let h = t.height;
-    let w = t.width;
+    let lowest = lines_below(t.upward, h, 0);
+    let dlow = line_low(t, t.destination, lowest);
+    let slow = source_low(t, source, lowest, dlow);
     let mut r = 0;
     while r < h {
-        let d = line_low(t, t.destination, r);
-        let s = source_low(t, source, r, d);
-        let p = pattern_low(t, pattern, r);
-        line(
-            mem,
-            pat,
-            src,
-            t.code,
-            source,
-            pattern,
-            t.leftward,
-            d,
-            s,
-            p,
-            w,
-        );
+        one_line(mem, pat, src, t, source, pattern, dlow, slow, r);
         r += 1;
     }
 }

@@ -155,7 +155,7 @@ module _ (n : ℕ) (t : Transfer) (a : Area) (hw : 1 ≤ t .width) (in-memory : 
 
 -- ---- the pattern's bytes
 
-pub pattern-all : (n : ℕ) (t : Transfer) → t .pattern + 64 ≤ n → everyByte t (λ r c. ltb (patternPlace t r c) n) ≡ true
+pub pattern-all : (n : ℕ) (t : Transfer) → t .«pattern_address» + 64 ≤ n → everyByte t (λ r c. ltb (patternPlace t r c) n) ≡ true
 pattern-all n t h =
     bytes-all t (λ r c. ltb (patternPlace t r c) n) (λ r c hr hc.
     let l : patternPlace t r c < n = omega arith in
@@ -207,7 +207,7 @@ pub ranges : (t : Transfer) → inRange t ≡ true → Ranges t
 unfolding inRange
 ranges t e =
     let h = all-seven (leb 1 (t .width)) (leb (t .width) 8191) (leb 1 (t .height)) (leb (t .height) 8191) (leb (t .destination .span) 8191)
-    (not (usesSource (t .code)) || leb (t .source .span) 8191) (not (usesPattern (t .code)) || (leb (t .row) 7 && eqb (t .pattern % 64) 0)) e in
+    (not (usesSource (t .code)) || leb (t .source .span) 8191) (not (usesPattern (t .code)) || (leb (t .«pattern_row») 7 && eqb (t .«pattern_address» % 64) 0)) e in
     record {
       wide = leb-true _ _ (h .0);
       narrow = leb-true _ _ (h .1);
@@ -265,12 +265,12 @@ module _ (n : ℕ) (t : Transfer) (a : Area) (hw : 1 ≤ t .width) (hh : 1 ≤ t
 
 -- the same of the pattern
 module _ (n : ℕ) (t : Transfer) (hw : 1 ≤ t .width) (hh : 1 ≤ t .height) where
-  pub pattern-begins-in : everyByte t (λ r c. ltb (patternPlace t r c) n) ≡ true → t .pattern < n
+  pub pattern-begins-in : everyByte t (λ r c. ltb (patternPlace t r c) n) ≡ true → t .«pattern_address» < n
   pattern-begins-in e =
       let h : patternPlace t 0 0 < n = ltb-true _ _ (bytes-at t (λ r c. ltb (patternPlace t r c) n) 0 0 hh hw e) in
       omega arith
 
-  pub pattern-begins-out : n ≤ t .pattern → everyByte t (λ r c. ltb (patternPlace t r c) n) ≡ false
+  pub pattern-begins-out : n ≤ t .«pattern_address» → everyByte t (λ r c. ltb (patternPlace t r c) n) ≡ false
   pattern-begins-out h =
       let l : n ≤ patternPlace t 0 0 = omega arith in
       bytes-false t (λ r c. ltb (patternPlace t r c) n) 0 0 hh hw (le-ltb _ _ l)
@@ -287,5 +287,5 @@ line-low-is n t a rs most close e r hr =
     let h = rs .low in
     rw (below-fold (a .address) (omega arith), below-fold (a .span) (omega arith), below-fold (t .width) (omega arith), below-fold r (omega arith))
 
-pub pattern-line-is : (t : Transfer) → t .pattern ≤ 2097152 → (r : ℕ) → patternLow (t .upward) (t .pattern % 2 ^ 32) (t .row) r ≡ patternLine t r
-pattern-line-is t h r = rw (below-fold (t .pattern) h)
+pub pattern-line-is : (t : Transfer) → t .«pattern_address» ≤ 2097152 → (r : ℕ) → patternLow (t .upward) (t .«pattern_address» % 2 ^ 32) (t .«pattern_row») r ≡ patternLine t r
+pattern-line-is t h r = rw (below-fold (t .«pattern_address») h)

@@ -1,5 +1,5 @@
--- Each number of a transfer is given exactly when document 01, "Numbers returned", says: 3, then 5, then 4, which is exact in both
--- directions. Before that the laws of a test of every byte. Assumes nothing.
+-- Each number of a transfer is given exactly when document 01, "Numbers returned", says: 3, then 5, then 4, which is exact in
+-- both directions. Before that the laws of a test of every byte. Assumes nothing.
 use mathlib.Core.Path.{_≡_, refl, sym, ap, _∙_}
 use mathlib.Core.Bool.{Bool, true, false, cond, not, _&&_, _||_, and-false, false≢true, true≢false}
 use mathlib.Core.Logic.{_↔_}

@@ -19,8 +19,8 @@ oneLine code width source destination pattern =
       code = code;
       leftward = false;
       upward = false;
-      pattern = pattern;
-      row = 0;
+      «pattern_address» = pattern;
+      «pattern_row» = 0;
     }
 
 -- 11. Memory 4,096, code F0h, pattern 0, destination 4,095, height 1, forward: width 1 done, width 2 number 4.

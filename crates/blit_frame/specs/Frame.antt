@@ -28,7 +28,7 @@ place t a r c = a .address + ahead t a r c - behind t a r c
 -- The pattern byte is at the pattern address + 8 times (pattern row plus or minus r, modulo 8) + (destination byte's address
 -- modulo 8). Minus r is plus 7 r, modulo 8.
 abbrev pub patternLine : Transfer → ℕ → ℕ
-patternLine t r = t .pattern + 8 * ((t .row + cond (t .upward) (7 * r) r) % 8)
+patternLine t r = t .«pattern_address» + 8 * ((t .«pattern_row» + cond (t .upward) (7 * r) r) % 8)
 
 abbrev pub patternPlace : Transfer → ℕ → ℕ → ℕ
 patternPlace t r c = patternLine t r + place t (t .destination) r c % 8
@@ -40,7 +40,7 @@ unfoldable pub inRange : Transfer → Bool
 inRange t =
     leb 1 (t .width) && leb (t .width) 8191 && leb 1 (t .height) && leb (t .height) 8191 && leb (t .destination .span) 8191
     && (not (usesSource (t .code)) || leb (t .source .span) 8191)
-    && (not (usesPattern (t .code)) || (leb (t .row) 7 && eqb (t .pattern % 64) 0))
+    && (not (usesPattern (t .code)) || (leb (t .«pattern_row») 7 && eqb (t .«pattern_address» % 64) 0))
 
 -- the test holds at each byte c of each line r
 abbrev pub everyByte : Transfer → (ℕ → ℕ → Bool) → Bool

@@ -1,5 +1,5 @@
--- For code that works out where a line lies: nothing here has to be believed. A line is given by its lowest address, its width and its
--- direction. The numbers of an accepted transfer are far below 2^32 (laws `line-low-is` and `pattern-line-is`).
+-- For code that works out where a line lies: nothing here has to be believed. A line is given by its lowest address, its width
+-- and its direction. The numbers of an accepted transfer are far below 2^32 (laws `line-low-is` and `pattern-line-is`).
 use mathlib.Core.Bool.{Bool, true, cond}
 use mathlib.Core.Path.{_≡_}
 use Prim.Native.Nat.{ℕ, _+_, _-_, _*_, _%_, _≤_, _<_}

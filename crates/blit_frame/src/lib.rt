@@ -1,8 +1,8 @@
-// When a block transfer is done, and where its lines lie: document 01, "Video memory and block transfers" and "Numbers returned", 3, 5
-// and 4; databook, chapter 17. Whether it is done depends on the memory's length alone, so `judge` takes no memory. Numbers of any
-// value are taken. The transfer itself is crate `blit`'s.
-// An area lies in memory where its two outermost bytes do. Of the pattern only the bytes that are addressed count: where its 64 bytes
-// may run past the end, each line's first eight bytes are looked at, since its pattern repeats after eight.
+// When a block transfer is done, and where its lines lie: document 01, "Video memory and block transfers" and "Numbers
+// returned", 3, 5 and 4; databook, chapter 17. Whether it is done depends on the memory's length alone, so `judge` takes no
+// memory. Numbers of any value are taken. The transfer itself is crate `blit`'s. An area lies in memory where its two outermost
+// bytes do. Of the pattern only the bytes that are addressed count: where its 64 bytes may run past the end, each line's first
+// eight bytes are looked at, since its pattern repeats after eight.
 
 ghost use mathlib.Core.Path.{_≡_};
 ghost use mathlib.Core.Bool.{cond, true, false, not, _||_};
@@ -31,8 +31,8 @@ pub struct Transfer {
     pub code: u8,
     pub leftward: bool,
     pub upward: bool,
-    pub pattern: usize,
-    pub row: usize,
+    pub pattern_address: usize,
+    pub pattern_row: usize,
 }
 
 // ---- Small arithmetic.
@@ -95,9 +95,9 @@ pub fn line_low(t: Transfer, a: Area, r: usize) -> usize
 
 // The first of the pattern's eight bytes for line r.
 pub fn pattern_line(t: Transfer, r: usize) -> usize
-    ensures { λ res. ⌜ res ≡ patternLow (t .upward) (t .pattern % 2 ^ 32) (t .row) r ⌝ }
+    ensures { λ res. ⌜ res ≡ patternLow (t .upward) (t .«pattern_address» % 2 ^ 32) (t .«pattern_row») r ⌝ }
 {
-    fold(t.pattern) + 8 * ((t.row % 8 + choose(t.upward, 7 * (r % 8), r % 8)) % 8)
+    fold(t.pattern_address) + 8 * ((t.pattern_row % 8 + choose(t.upward, 7 * (r % 8), r % 8)) % 8)
 }
 
 // ---- Whether a transfer is done.
@@ -112,7 +112,8 @@ fn in_range(t: Transfer) -> bool
         & (t.height <= 8191)
         & (t.destination.span <= 8191)
         & (!blit_raster::uses_source(t.code) | (t.source.span <= 8191))
-        & (!blit_raster::uses_pattern(t.code) | ((t.row <= 7) & (t.pattern % 64 == 0)))
+        & (!blit_raster::uses_pattern(t.code)
+            | ((t.pattern_row <= 7) & (t.pattern_address % 64 == 0)))
 }
 
 // Every byte of an area lies in memory: the first does, and the two outermost.
@@ -168,10 +169,10 @@ fn pattern_inside(n: usize, t: Transfer) -> bool
     requires { ⌜ everyByte t (within n t (t .destination)) ≡ true ⌝ }
     ensures { λ r. ⌜ r ≡ everyByte t (λ r c. ltb (patternPlace t r c) n) ⌝ }
 {
-    if n <= t.pattern {
+    if n <= t.pattern_address {
         return false;
     }
-    if t.pattern + 64 <= n {
+    if t.pattern_address + 64 <= n {
         return true;
     }
     let h = t.height;

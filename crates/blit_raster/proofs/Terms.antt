@@ -1,5 +1,5 @@
--- The eight terms are the raster byte: an operation on P, S, D and eight bytes, each of which is a bit of the code in all its bits. On single
--- bits every code and every P, S and D is tried. Assumes nothing.
+-- The eight terms are the raster byte: an operation on P, S, D and eight bytes, each of which is a bit of the code in all its
+-- bits. On single bits every code and every P, S and D is tried. Assumes nothing.
 use mathlib.Core.Path.{_≡_, refl, sym}
 use mathlib.Core.Bool.{Bool, true, false, Bool·beq}
 use mathlib.Core.List.{[], _∷_}
@@ -11,8 +11,8 @@ use Rattle.lists.specs.Scan.{every}
 use Rattle.lists.proofs.Scan.{every-at}
 use Rattle.blit_raster.specs.Raster.{number, raster}
 use Rattle.blit_raster.specs.AppendixE.{Operation, input, not, _and_, _or_, P, S, D, value, inputs}
-use Rattle.blit_raster.specs.AppendixELaws.{value-raster}
-use Rattle.blit_raster.specs.Laws.{two, bit-small, bit-number, number-small, agree, agree-at, bitOf}
+use Rattle.blit_raster.proofs.AppendixELaws.{value-raster}
+use Rattle.blit_raster.proofs.Laws.{two, bit-small, bit-number, number-small, agree, agree-at, bitOf}
 
 -- the terms, with the code's bits as further inputs
 abbrev eight : Operation

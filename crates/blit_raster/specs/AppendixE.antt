@@ -1,6 +1,7 @@
--- The databook's appendix E, tables E-1 to E-3, row by row: a code and what it writes, in the print's own words. No contract rests on
--- it: it is what two people can lay beside the print, and the law `appendix-E` shows that each row is document 01's code. Six of the 256
--- rows are not here, since the text that was read does not have them whole: 2Eh, 2Fh, 5Eh, 5Fh, AAh and B5h.
+-- The databook's appendix E, tables E-1 to E-3, row by row: a code and what it writes, in the print's own words. No contract
+-- rests on it: it is what two people can lay beside the print, and the law `appendix-E` shows that each row is document 01's
+-- code. Six of the 256 rows are not here, since the text that was read does not have them whole: 2Eh, 2Fh, 5Eh, 5Fh, AAh and
+-- B5h.
 use Prim.Native.Nat.{ℕ, zero, suc, _-_}
 use mathlib.Core.List.{List, [], _∷_}
 use lib.Bits.{bitAnd, bitOr, bitXor}

@@ -1,6 +1,4 @@
--- What has to be believed of the raster code is in Raster; Laws shows that it is right, and AppendixELaws that it is that of the print,
--- whose rows are in AppendixE.
+-- What has to be believed of the raster code is in Raster. AppendixE has the print's rows as data; proofs/AppendixELaws shows
+-- that the raster code is theirs, and proofs/Laws what else it gives.
 pub mod Raster
-pub mod Laws
 pub mod AppendixE
-pub mod AppendixELaws

@@ -1,6 +1,6 @@
 -- The raster code of document 01, "Video memory and block transfers", and of the databook's appendix E:
 -- for each bit, k = 4P + 2S + D and the result is bit k of the code. Also when a code depends on the source or the pattern.
--- Bytes are numbers below 256. The laws of these definitions are in Laws.
+-- Bytes are numbers below 256. Their laws are in proofs/Laws.
 use Prim.Native.Nat.{ℕ, zero, suc, _+_, _*_}
 use mathlib.Core.Bool.{Bool, not}
 use lib.Dec.{eqb}

@@ -16,8 +16,8 @@ fn chosen(code: u8, k: u8) -> u8
     if (code >> k) % 2 == 1 { 255 } else { 0 }
 }
 
-// The same byte without a choice: the bit goes to the top and is copied beside itself, then the two are, then the four. Which of these two
-// functions a term has makes a difference to the compiled loops alone.
+// The same byte without a choice: the bit goes to the top and is copied beside itself, then the two are, then the four. Which of
+// these two functions a term has makes a difference to the compiled loops alone.
 fn spread(code: u8, k: u8) -> u8
     requires { ⌜ k < 8 ⌝ }
     ensures { λ r. ⌜ r ≡ number 8 (λ i. bit k code) ⌝ }
@@ -28,8 +28,8 @@ fn spread(code: u8, k: u8) -> u8
     four | four >> 4
 }
 
-// The raster byte: eight terms, one for each bit of the code, in the order of appendix E. Beside the term of a bit stands the print's row for
-// the code that has this bit alone.
+// The raster byte: eight terms, one for each bit of the code, in the order of appendix E. Beside the term of a bit stands the
+// print's row for the code that has this bit alone.
 pub fn raster_byte(code: u8, p: u8, s: u8, d: u8) -> u8
     ensures { λ r. ⌜ r ≡ raster code p s d ⌝ }
 {

@@ -18,8 +18,8 @@ oneLine code leftward width source destination = record {
   code = code;
   leftward = leftward;
   upward = false;
-  pattern = 0;
-  row = 0;
+  «pattern_address» = 0;
+  «pattern_row» = 0;
 }
 
 unfoldable pub starred : List Case

@@ -13,6 +13,6 @@ given dst dstspan src srcspan width height code leftward upward pattern row =
       code = code;
       leftward = leftward;
       upward = upward;
-      pattern = pattern;
-      row = row;
+      «pattern_address» = pattern;
+      «pattern_row» = row;
     }

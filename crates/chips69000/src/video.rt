@@ -66,8 +66,8 @@ pub extern "C" fn chips69000_transfer(
         code: code,
         leftward: leftward,
         upward: upward,
-        pattern: pattern,
-        row: row,
+        pattern_address: pattern,
+        pattern_row: row,
     };
     answer_number(blit::block_transfer(mem, t))
 }

@@ -1,5 +1,5 @@
--- Laws that show the definitions of a linear read and write to be the right ones: which lengths are allowed; each number of document 01,
--- "Numbers returned", exactly when it says so; what a write leaves, as reads see it. Assumes nothing.
+-- Laws that show the definitions of a linear read and write to be the right ones: which lengths are allowed; each number of
+-- document 01, "Numbers returned", exactly when it says so; what a write leaves, as reads see it. Assumes nothing.
 use mathlib.Core.Path.{_≡_, refl, ap, _∙_}
 use mathlib.Core.Bool.{Bool, true, false, cond, _&&_, false≢true, true≢false}
 use mathlib.Core.List.{List}

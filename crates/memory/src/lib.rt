@@ -1,6 +1,6 @@
-// Video memory that the caller lends, one byte at a time: document 01, "Video memory and block transfers". A linear read and a linear
-// write, over a memory of any length and at any place, each an equation with specs/Memory; a refusal changes no byte. The answers,
-// with document 01's numbers, are those of block transfers too (crates `blit_frame` and `blit`).
+// Video memory that the caller lends, one byte at a time: document 01, "Video memory and block transfers". A linear read and a
+// linear write, over a memory of any length and at any place, each an equation with specs/Memory; a refusal changes no byte. The
+// answers, with document 01's numbers, are those of block transfers too (crates `blit_frame` and `blit`).
 
 ghost use mathlib.Core.Path.{_≡_};
 ghost use lib.ListN.{length};

@@ -46,7 +46,7 @@ use Rattle.memory.specs.Memory.{lengthAllowed, byteNumber}
 use Rattle.memory.proofs.Laws as memory-laws
 use Rattle.blit_raster.specs.Raster.{raster}
 use Rattle.blit_raster.specs.AppendixE.{printed as printedCodes, value, inputs, zeros}
-use Rattle.blit_raster.specs.AppendixELaws as appendix-laws
+use Rattle.blit_raster.proofs.AppendixELaws as appendix-laws
 use Rattle.blit_frame.specs.Frame.{inRange, inMemory, judgedNumber}
 use Rattle.blit_frame.specs.declared.Transfer.{Transfer}
 use Rattle.blit_frame.proofs.Numbers as frame-laws

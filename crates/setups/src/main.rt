@@ -174,8 +174,8 @@ fn one_line(code: u8, leftward: bool, width: usize, source: usize, destination: 
         code,
         leftward,
         upward: false,
-        pattern: 0,
-        row: 0,
+        pattern_address: 0,
+        pattern_row: 0,
     };
     let answer = block_transfer(&mut mem, t);
     let mut out = [0u8; 16];

@@ -47,8 +47,8 @@ pub transfer-line : asked (0x74 ∷ 0x20 ∷ 0x31 ∷ 0x30 ∷ 0x30 ∷ 0x30 ∷
       code = 0xCC;
       leftward = false;
       upward = true;
-      pattern = 0;
-      row = 7;
+      «pattern_address» = 0;
+      «pattern_row» = 7;
     })
 unfolding asked requestOf isTransfer transferOf fits value numberOf allDigits valueIn digitValue wordsOf takenAll taken ended grown
 transfer-line = refl

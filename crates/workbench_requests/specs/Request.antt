@@ -75,8 +75,8 @@ transferOf w = record {
   code = byte w 7;
   leftward = direction w 8;
   upward = direction w 9;
-  pattern = number w 10;
-  row = number w 11;
+  «pattern_address» = number w 10;
+  «pattern_row» = number w 11;
 }
 
 -- ---- the requests: `RESET`; `O`, `I`, `P`, `M`, `R`, `W`, `T` and `D`; `?` and `HELP`; and `Q`

@@ -155,8 +155,8 @@ fn transfer_of(w: Words) -> Transfer
         code: byte(at[7]),
         leftward: direction(at[8]),
         upward: direction(at[9]),
-        pattern: number(at[10]),
-        row: number(at[11]),
+        pattern_address: number(at[10]),
+        pattern_row: number(at[11]),
     }
 }
 

@@ -11,6 +11,7 @@ returns c =
     let b = c .before in
     sym (begins-out (b .args .n) (b .args .t) (b .args .a) (b .pre .0 .wide) (b .pre .0 .high) (c .if1 .taken))
 
+-- its two outermost bytes decide
 returns-2 : tie.Need-returns-2
 returns-2 c =
     let b = c .before .before .before .before .before .before .before .before in

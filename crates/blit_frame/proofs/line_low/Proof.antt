@@ -8,8 +8,7 @@ use Rattle.blit_frame.proofs.line_low.Tie as tie
 move-by-requires-2 : tie.Need-move-by-requires-2
 move-by-requires-2 c κs =
     let up = c .before .before .before .before .before .before .before .before .args .t .upward in
-    let first = c .before .before .before .move-by .ensures in
-    omega (arith, c .choose .ensures .1, c .before .less .ensures, c .before .before .fold4 .ensures .1, first, moved-most up (c .before .before .before .before .fold3 .result) (c .before .before .before .before .before .times .result), c .before .before .before .before .fold3 .ensures .1, c .before .before .before .before .before .times .ensures .1)
+    omega (arith, moved-most up (c .before .before .before .before .fold3 .result) (c .before .before .before .before .before .times .result))
 
 returns : tie.Need-returns
 returns c =

@@ -10,5 +10,5 @@ move-by-spec =
     (tie.spec
     (λ c κs. search needs)
     (λ c. search needs)
-    (λ c. rw (c .before .if1 .taken) (omega (arith, c .less .ensures)))
+    (λ c. rw (c .before .if1 .taken) (omega arith))
     (λ c. rw (c .if1 .left) (omega arith)))

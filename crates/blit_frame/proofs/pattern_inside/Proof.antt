@@ -44,7 +44,7 @@ pattern-line-inside-requires c κs =
     let hr : r < t .height = c .before .before .loop-test .taken in
     let low = c .before .line-low .ensures ∙ line-low-is _ t (t .destination) (b .pre .0) (b .pre .1 .0) (b .pre .0 .close) (b .pre .1 .1) r hr in
     let f = line-fits _ t (t .destination) (b .pre .0 .wide) (b .pre .1 .1) r hr in
-    (omega (arith, f, low), omega (arith, c .pattern-line .ensures))
+    (omega arith, omega arith)
 
 -- a line has one outside
 returns-3 : tie.Need-returns-3 Inv-loop μ-loop
@@ -54,7 +54,7 @@ returns-3 c =
     let r = c .before .before .before .before .before .loop .r in
     let hr : r < t .height = c .before .before .before .before .loop-test .taken in
     let low = c .before .before .before .line-low .ensures ∙ line-low-is _ t (t .destination) (b .pre .0) (b .pre .1 .0) (b .pre .0 .close) (b .pre .1 .1) r hr in
-    let eight = c .before .before .pattern-line .ensures ∙ pattern-line-is t (omega (arith, c .before .before .before .before .before .before .before .before .if1 .left)) r in
+    let eight = c .before .before .pattern-line .ensures ∙ pattern-line-is t (omega arith) r in
     let gone = rw (low, eight) at (c .before .pattern-line-inside .ensures .1 (not-true _ (c .if3 .taken))) in
     sym (c .before .before .before .before .before .loop .inv
     ∙ every-stop (lineIn (b .args .n) t) r (t .height) hr (pattern-line-out (b .args .n) t (b .pre .0 .wide) (b .pre .1 .1) r hr gone))
@@ -66,7 +66,7 @@ loop-again c =
     let r = c .before .before .before .before .before .loop .r in
     let hr : r < t .height = c .before .before .before .before .loop-test .taken in
     let low = c .before .before .before .line-low .ensures ∙ line-low-is _ t (t .destination) (b .pre .0) (b .pre .1 .0) (b .pre .0 .close) (b .pre .1 .1) r hr in
-    let eight = c .before .before .pattern-line .ensures ∙ pattern-line-is t (omega (arith, c .before .before .before .before .before .before .before .before .if1 .left)) r in
+    let eight = c .before .before .pattern-line .ensures ∙ pattern-line-is t (omega arith) r in
     let here = rw (low, eight) at (c .before .pattern-line-inside .ensures .0 (not-false _ (c .if3 .left))) in
     c .before .before .before .before .before .loop .inv
     ∙ every-more (lineIn (b .args .n) t) r (t .height) hr (pattern-line-in (b .args .n) t (b .pre .0 .wide) (b .pre .1 .1) r hr here)

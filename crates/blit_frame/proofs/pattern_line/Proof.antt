@@ -26,4 +26,4 @@ pattern-line-spec =
     (λ c. search needs)
     (λ c.
     let a = c .before .before .before .args in
-    rw (c .choose .ensures .0, c .before .before .fold .ensures .0, rows (a .t .upward) (a .t .row) (a .r))))
+    rw (c .choose .ensures .0, c .before .before .fold .ensures .0, rows (a .t .upward) (a .t .«pattern_row») (a .r))))

@@ -15,6 +15,7 @@ Inv-loop n d p w e c₀ c = (c ≤ e) × ((k : ℕ) → k < c → p + (d + k) % 
 abbrev μ-loop : tie.MeasureT-loop
 μ-loop n d p w e c₀ c = e - c
 
+-- a byte lies outside
 returns : tie.Need-returns Inv-loop μ-loop
 returns c =
     let l = c .before .before .loop in
@@ -26,6 +27,7 @@ loop-again c =
     let l = c .before .before .loop in
     (search needs, below-more (λ k. a .p + (a .d + k) % 8 < a .n) (l .c) (l .inv .1) (c .if1 .left))
 
+-- each of the first eight passed
 returns-2 : tie.Need-returns-2 Inv-loop μ-loop
 returns-2 c =
     let a = c .before .before .before .args in

@@ -1,4 +1,5 @@
--- `blit_frame::source_inside` meets its contract. Assumes nothing.
+-- `blit_frame::source_inside` meets its contract: a code with no source has none outside, of any other its area decides. Assumes
+-- nothing.
 use mathlib.Core.Path.{sym, _∙_}
 use borrow.Author.Needs.{needs}
 use borrow.Author.Tests.{not-true, not-false}

@@ -10,5 +10,5 @@ pub times-spec : {M : Type 1} → statement M
 times-spec =
     tie.close
     (tie.spec
-    (λ c. let l : c .args .lines ≤ 4294967295 = omega (arith, c .pre .0) in omega (arith, mul-le-mul-right (c .args .span) l, c .pre .1))
-    (λ c. let l : c .args .lines ≤ 4294967295 = omega (arith, c .pre .0) in (refl, omega (arith, mul-le-mul-right (c .args .span) l, c .pre .1))))
+    (λ c. let l : c .args .lines ≤ 4294967295 = omega arith in omega (arith, mul-le-mul-right (c .args .span) l))
+    (λ c. let l : c .args .lines ≤ 4294967295 = omega arith in (refl, omega (arith, mul-le-mul-right (c .args .span) l))))

@@ -38,14 +38,14 @@ blend-spec =
     μ-loop
     (λ c. (search needs, part-none _ _ _ _))
     (λ c. omega arith)
-    (λ c κs. omega (arith, c .before .before .loop .inv .1 .same))
+    (λ c κs. omega arith)
     (λ c. omega arith)
     (λ c. omega arith)
     (λ c. omega arith)
-    (λ c. omega (arith, c .before .before .before .before .before .loop .inv .1 .same))
+    (λ c. omega arith)
     (λ c κs. search needs)
     (λ c. omega arith)
-    (λ c. omega (arith, c .before .before .before .before .before .before .loop .inv .1 .same))
+    (λ c. omega arith)
     (λ c. omega arith)
     (λ c. omega arith)
     loop-again

@@ -1,5 +1,5 @@
--- `blit::lines::blend_plain` meets its contract: each store is one more byte of the stretch, and the bytes read are not yet in it.
--- Assumes nothing.
+-- `blit::lines::blend_plain` meets its contract: each store is one more byte of the stretch, and the bytes read are not yet in
+-- it. Assumes nothing.
 use Prim.Native.Nat.{_+_, _-_, _≤_, _<_}
 use mathlib.Core.Path.{_≡_, refl}
 use mathlib.Core.Logic.{⊎-elim}
@@ -39,12 +39,12 @@ blend-plain-spec =
     μ-loop
     (λ c. (search needs, part-none _ _ _ _))
     (λ c. omega arith)
-    (λ c. omega (arith, c .before .before .loop .inv .1 .same))
     (λ c. omega arith)
-    (λ c. omega (arith, c .before .before .before .loop .inv .1 .same))
+    (λ c. omega arith)
+    (λ c. omega arith)
     (λ c κs. search needs)
     (λ c. omega arith)
-    (λ c. omega (arith, c .before .before .before .before .loop .inv .1 .same))
+    (λ c. omega arith)
     (λ c. omega arith)
     (λ c. omega arith)
     loop-again

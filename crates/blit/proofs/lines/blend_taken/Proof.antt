@@ -38,10 +38,10 @@ blend-taken-spec =
     (λ c κs. search needs)
     (λ c. omega arith)
     (λ c. omega arith)
-    (λ c. omega (arith, c .before .before .before .before .loop .inv .1 .same))
+    (λ c. omega arith)
     (λ c κs. search needs)
     (λ c. omega arith)
-    (λ c. omega (arith, c .before .before .before .before .before .loop .inv .1 .same))
+    (λ c. omega arith)
     (λ c. omega arith)
     (λ c. omega arith)
     loop-again

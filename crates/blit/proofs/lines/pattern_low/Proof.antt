@@ -9,5 +9,5 @@ pattern-low-spec =
     tie.close
     (tie.spec
     (λ c κs. search needs)
-    (λ c. (rw (c .before .if1 .taken) (c .pattern-line .ensures), omega (arith, c .pattern-line .ensures)))
+    (λ c. (rw (c .before .if1 .taken) (c .pattern-line .ensures), omega arith))
     (λ c. (rw (c .if1 .left), omega arith)))

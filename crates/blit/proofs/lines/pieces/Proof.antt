@@ -37,7 +37,7 @@ loop-again c =
     let a = b .args in
     let l = c .before .before .before .before .before .before .before .before .before .before .before .before .before .loop in
     let n = c .before .before .before .before .before .before .before .before .before .before .before .least .result in
-    let hc : l .c + n ≤ a .w = omega (arith, c .before .before .before .before .before .before .before .before .before .before .before .least .ensures .0) in (
+    let hc : l .c + n ≤ a .w = omega arith in (
       hc,
       search needs,
       piece-done (a .code) (a .pattern) (a .left) (a .d) (a .s) (a .p) (a .w) (a .k) (a .mem .now) (l .mem) _ (l .c) n (c .before .before .before .before .before .before .before .before .before .before .piece-low .result)
@@ -59,11 +59,11 @@ pieces-spec =
     loop-holds
     (λ c. omega arith)
     (λ c κs. search needs)
-    (λ c κs. omega (arith, c .least .ensures .0))
-    (λ c. omega (arith, c .before .before .before .piece-low .ensures .1))
-    (λ c. omega (arith, c .before .before .before .piece-low .ensures .1))
+    (λ c κs. omega arith)
+    (λ c. omega arith)
+    (λ c. omega arith)
     piece-requires
-    (λ c. omega (arith, c .before .before .before .before .before .before .before .before .before .before .before .least .ensures .0))
+    (λ c. omega arith)
     loop-less
     loop-again
     (λ c. search needs)

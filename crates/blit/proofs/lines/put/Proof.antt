@@ -34,7 +34,7 @@ put-spec =
     (λ c. (search needs, part-none _ _ _ _))
     (λ c. omega arith)
     (λ c. omega arith)
-    (λ c. omega (arith, c .before .before .loop .inv .1 .same))
+    (λ c. omega arith)
     (λ c. omega arith)
     (λ c. omega arith)
     loop-again

@@ -20,6 +20,6 @@ run-spec =
     (λ c κs.
     let b = c .before .before .before .before .before .before in
     let narrow = in-ranges (length (b .args .mem .now)) (b .args .t) (b .pre) .narrow in
-    (b .pre, (omega (arith, narrow), search needs, omega (arith, narrow))))
+    (b .pre, (omega arith, search needs, omega arith)))
     (λ c. search needs)
     (λ c. search needs))

@@ -1,4 +1,5 @@
--- `blit::lines::spread` meets its contract: a byte is that of k before it, which has the same place in the eight. Assumes nothing.
+-- `blit::lines::spread` meets its contract: a byte is that of k before it, which has the same place in the eight. Assumes
+-- nothing.
 use Prim.Native.Nat.{ℕ, _-_, _%_, _≤_, _<_}
 use mathlib.Core.Path.{_≡_, refl, ap, _∙_}
 use lib.ListN.{length, getD, set, length-set}

@@ -39,7 +39,7 @@ take-spec =
     (λ c. (search needs, part-none _ _ _ _, below-none _))
     (λ c. omega arith)
     (λ c. omega arith)
-    (λ c. omega (arith, c .before .before .loop .inv .1 .same))
+    (λ c. omega arith)
     (λ c. omega arith)
     (λ c. omega arith)
     loop-again

@@ -1,5 +1,5 @@
--- The raster code is the databook's: what each row of AppendixE makes of P, S and D is the raster byte of its code. An operation on bytes
--- is that operation on single bits, bit for bit, and there each row is tried. Assumes nothing.
+-- The raster code is the databook's: what each row of AppendixE makes of P, S and D is the raster byte of its code. An operation
+-- on bytes is that operation on single bits, bit for bit, and there each row is tried. Assumes nothing.
 use mathlib.Core.Bool.{true}
 use mathlib.Core.Path.{_≡_, refl, sym, ap, ap₂, _∙_}
 use Prim.Native.Nat.{ℕ, zero, suc, _-_, _<_, zero-le}
@@ -13,7 +13,7 @@ use Rattle.lists.proofs.Bits.{zero-bit, bit-and, bit-or, bit-xor, bit-complemen
 use Rattle.lists.proofs.Scan.{every-at}
 use Rattle.blit_raster.specs.Raster.{index, raster}
 use Rattle.blit_raster.specs.AppendixE.{Operation, input, zeros, ones, not, _and_, _or_, _xor_, value, inputs, printed}
-use Rattle.blit_raster.specs.Laws.{bit-small, raster-is, agree, agree-at, bitOf}
+use Rattle.blit_raster.proofs.Laws.{bit-small, raster-is, agree, agree-at, bitOf}
 
 -- an operation on bytes makes a byte, and each of its bits is that operation on the inputs' bits
 value-small : (at : ℕ → ℕ) → ((j : ℕ) → at j < 256) → (o : Operation) → value 255 at o < 256
