@@ -3,18 +3,15 @@
 use Prim.Native.Nat.{ℕ, _+_, _*_, _≤_}
 use native.Mathlib.Omega.{arith}
 use mathlib.Core.Bool.{Bool, true, false, cond, _||_}
-use mathlib.Core.Path.{_≡_, refl}
-use mathlib.Core.List.{List, [], _∷_, _++_}
+use mathlib.Core.List.{[], _++_}
 use lib.Dec.{eqb}
 use lib.ListN.{length, length-append}
-use Rattle.chip_registers.specs.Groups.{groupAt}
 use Rattle.chip.specs.State.{Named}
-use Rattle.chip.specs.Names.{register}
 use Rattle.chip.specs.Palette.{entry}
 use Rattle.chip.specs.declared.Rgb.{Rgb}
+use Rattle.text.specs.Ascii.{ascii}
 use Rattle.text_steps.specs.Written.{nameText, byteText}
 use Rattle.text_steps.proofs.Lengths.{name-most}
-use Rattle.text_registers.specs.Line.{joined}
 use Rattle.text_registers.proofs.Lengths.{joined-most}
 use Rattle.text_changes.specs.Changes.{registerLine, registerChange, indexes, registerAt, registersTo, groupsTo, colourLine, sameColour, colourChange, coloursTo, changed}
 
@@ -22,9 +19,9 @@ pub register-most : (g i old new : ℕ) → length (registerChange g i old new) 
 unfolding registerChange registerLine
 register-most g i old new = go (eqb old new)
   where
-    go : (b : Bool) → length (cond b [] (nameText g i ++ (byteText old ++ byteText new ++ (0x0A ∷ [])))) ≤ 14
+    go : (b : Bool) → length (cond b [] (nameText g i ++ (byteText old ++ byteText new ++ ascii "\n"))) ≤ 14
     go true = omega arith
-    go false = omega (arith, name-most g i, length-append (nameText g i) (byteText old ++ byteText new ++ (0x0A ∷ [])))
+    go false = omega (arith, name-most g i, length-append (nameText g i) (byteText old ++ byteText new ++ ascii "\n"))
 
 pub indexes-most : (g : ℕ) → indexes g ≤ 256
 unfolding indexes

@@ -4,16 +4,16 @@ use Prim.Native.Nat.{ℕ, zero, suc, _<_}
 use native.Mathlib.Omega.{arith}
 use native.Mathlib.Decide.{ℕ-discrete}
 use mathlib.Core.Bool.{Bool, true, false, cond, _&&_}
-use mathlib.Core.Path.{_≡_, refl, sym, ap, _∙_}
+use mathlib.Core.Path.{_≡_, refl, ap, _∙_}
 use mathlib.Core.List.{List, [], _∷_, _++_}
 use lib.Dec.{eqb}
-use lib.ListN.{length, length-append}
 use borrow.Author.Tests.{eqb-true, eq-eqb}
 use Rattle.chip_registers.specs.Groups.{groupAt}
 use Rattle.chip.specs.State.{Named}
 use Rattle.chip.specs.Names.{register}
 use Rattle.chip.specs.Palette.{rgb, entry}
 use Rattle.chip.specs.declared.Rgb.{Rgb}
+use Rattle.text.specs.Ascii.{ascii}
 use Rattle.text_steps.specs.Written.{nameText, byteText}
 use Rattle.text_registers.specs.Line.{joined}
 use Rattle.text_changes.specs.Changes.{registerLine, registerChange, indexes, registerAt, registersTo, groupsTo, colourLine, sameColour, colourChange, coloursTo, changed}
@@ -47,9 +47,9 @@ register-silent : (g i old new : ℕ) → registerChange g i old new ≡ [] → 
 unfolding registerChange registerLine
 register-silent g i old new e = go (eqb old new) refl e
   where
-    go : (b : Bool) → eqb old new ≡ b → cond b [] (nameText g i ++ (byteText old ++ byteText new ++ (0x0A ∷ []))) ≡ [] → old ≡ new
+    go : (b : Bool) → eqb old new ≡ b → cond b [] (nameText g i ++ (byteText old ++ byteText new ++ ascii "\n")) ≡ [] → old ≡ new
     go true h e = eqb-true _ _ h
-    go false h e = let z = empty-right (nameText g i) (byteText old ++ byteText new ++ (0x0A ∷ [])) e in cc
+    go false h e = let z = empty-right (nameText g i) (byteText old ++ byteText new ++ ascii "\n") e in cc
 
 both : (a b : Bool) → (a && b) ≡ true → (a ≡ true) × (b ≡ true)
 both true b e = (refl, e)

@@ -1,18 +1,18 @@
--- What differs between two states, as text: a line for each register whose byte differs, in the order of the groups'
--- numbers and within a group by rising index, with the byte before and the byte after, `XR60 00 43`, `MSR 00 67`; then a
--- line for each palette entry that differs, by rising number, with the three stored bytes before and after, `COLOUR 02
--- 000000 FFD000`. Registers and entries are read by name: no index register and no loading state is looked at. Words are in
--- ASCII. How long the text can be, and that what it does not tell is the same in both states, are laws: proofs/Lengths and
--- proofs/Telling.
+-- What differs between two states, as text: a line for each register whose byte differs, in the order of the groups' numbers
+-- and within a group by rising index, with the byte before and the byte after, `XR60 00 43`, `MSR 00 67`; then a line for
+-- each palette entry that differs, by rising number, with the three stored bytes before and after, `COLOUR 02 000000 FFD000`.
+-- Registers and entries are read by name: no index register and no loading state is looked at. How long the text can be, and
+-- that what it does not tell is the same in both states, are laws: proofs/Lengths and proofs/Telling.
 use Prim.Native.Nat.{ℕ}
 use mathlib.Core.Bool.{Bool, cond, _&&_, _||_}
-use mathlib.Core.List.{List, [], _∷_, _++_}
+use mathlib.Core.List.{List, [], _++_}
 use lib.Dec.{eqb}
 use Rattle.chip_registers.specs.Groups.{groupAt}
 use Rattle.chip.specs.State.{Named}
 use Rattle.chip.specs.Names.{register}
 use Rattle.chip.specs.Palette.{entry}
 use Rattle.chip.specs.declared.Rgb.{Rgb}
+use Rattle.text.specs.Ascii.{ascii}
 use Rattle.text.specs.Digits.{byteDigits}
 use Rattle.text_steps.specs.Written.{nameText, byteText}
 use Rattle.text_registers.specs.Line.{joined}
@@ -20,7 +20,7 @@ use Rattle.text_registers.specs.Line.{joined}
 -- ---- registers
 -- the name of a register of the group with this number, the byte before and the byte after
 unfoldable pub registerLine : ℕ → ℕ → ℕ → ℕ → List ℕ
-registerLine g i old new = nameText g i ++ (byteText old ++ byteText new ++ (0x0A ∷ []))
+registerLine g i old new = nameText g i ++ (byteText old ++ byteText new ++ ascii "\n")
 
 -- nothing where the two are the same
 unfoldable pub registerChange : ℕ → ℕ → ℕ → ℕ → List ℕ
@@ -42,12 +42,12 @@ groupsTo before after k = joined (λ (g : ℕ). registersTo before after g (inde
 
 -- ---- colours
 abbrev pub colourDigits : Rgb → List ℕ
-colourDigits c = 0x20 ∷ byteDigits (c .red) ++ byteDigits (c .green) ++ byteDigits (c .blue)
+colourDigits c = ascii " " ++ byteDigits (c .red) ++ byteDigits (c .green) ++ byteDigits (c .blue)
 
 -- `COLOUR`, the number of the entry, its bytes before and after
 unfoldable pub colourLine : ℕ → Rgb → Rgb → List ℕ
 colourLine e old new =
-    (0x43 ∷ 0x4F ∷ 0x4C ∷ 0x4F ∷ 0x55 ∷ 0x52 ∷ []) ++ byteText e ++ colourDigits old ++ colourDigits new ++ (0x0A ∷ [])
+    ascii "COLOUR" ++ byteText e ++ colourDigits old ++ colourDigits new ++ ascii "\n"
 
 unfoldable pub sameColour : Rgb → Rgb → Bool
 sameColour a b = eqb (a .red) (b .red) && eqb (a .green) (b .green) && eqb (a .blue) (b .blue)

@@ -1,9 +1,9 @@
 -- A script played, as text: the file is played on a chip after a reset with pin bytes FFh and FFh by the entry that carries
--- demand 3 (crate `chip_play`). The text says what then differs from the reset (`changed` of the crate text_changes), and in its last
--- line how many commands there were: `commands 2`. The file's refusals come first (document 01, Numbers returned: 8, 6, 7;
--- document 02, P2: 11; 9 where the commands find too little room), then 9 where the text finds less than 38,430 bytes, the
--- most that it can have. A refusal changes no byte of the output, and bytes after the text keep their value. What the text
--- says by the steps alone is a law: proofs/ByName.
+-- demand 3 (crate `chip_play`). The text says what then differs from the reset (`changed` of the crate text_changes), and in
+-- its last line how many commands there were: `commands 2`. The file's refusals come first (document 01, Numbers returned: 8,
+-- 6, 7; document 02, P2: 11; 9 where the commands find too little room), then 9 where the text finds less than 38,430 bytes,
+-- the most that it can have. A refusal changes no byte of the output, and bytes after the text keep their value. What the
+-- text says by the steps alone is a law: proofs/ByName.
 use Prim.Native.Nat.{ℕ}
 use mathlib.Core.Bool.{cond}
 use mathlib.Core.List.{List, [], _∷_, _++_}

@@ -1,14 +1,21 @@
--- How the text grows: nothing at first, and then one piece more; and how a look at indexes grows, by one index.
-use Prim.Native.Nat.{ℕ, _+_}
+-- How the text grows: nothing at first, and then one piece more, which finds its room where each is short; and how a look at
+-- indexes grows, by one index.
+use Prim.Native.Nat.{ℕ, _+_, _*_, _≤_}
 use native.Mathlib.Numerals.{add-one}
+use native.Mathlib.Omega.{arith}
 use mathlib.Core.Bool.{false, _||_}
-use mathlib.Core.Path.{_≡_, refl}
+use mathlib.Core.Path.{_≡_, refl, _∙_}
 use mathlib.Core.List.{List, [], _++_}
+use lib.ListN.{length}
 use Rattle.chip_registers.specs.Groups.{rowOf}
 use Rattle.chip_registers.specs.declared.Group.{Group}
+use Rattle.text.specs.Adding.{Added}
+use Rattle.text.proofs.Adding.{added-none, added-append, added-length}
 use Rattle.text_registers.specs.Line.{joined}
 use Rattle.text_registers.specs.Text.{isListed, anyListed}
+use Rattle.text_registers.proofs.Lengths.{joined-most}
 
+-- ---- pieces one behind the other
 module _ (piece : ℕ → List ℕ) where
   pub joined-start : joined piece 0 ≡ []
   unfolding joined
@@ -18,6 +25,21 @@ module _ (piece : ℕ → List ℕ) where
   unfolding joined
   joined-next k = rw (add-one k)
 
+-- in an output: none of them, room for one more, and one more
+pub added-start : (piece : ℕ → List ℕ) (o : List ℕ) (at : ℕ) → Added o at (joined piece 0) o at
+added-start piece o at = rw (joined-start piece) (added-none o at)
+
+module _ (piece : ℕ → List ℕ) (m : ℕ) (few : (j : ℕ) → length (piece j) ≤ m) (o : List ℕ) (at k : ℕ) (room : at + (k * m + m) ≤ length o)
+    (o₁ : List ℕ) (e₁ : ℕ) (so-far : Added o at (joined piece k) o₁ e₁) (same : length o₁ ≡ length o) where
+  pub room-next : e₁ + m ≤ length o₁
+  room-next = omega (arith, joined-most piece m few k)
+
+  pub added-next : {o₂ : List ℕ} {e₂ : ℕ} → Added o₁ e₁ (piece k) o₂ e₂ → Added o at (joined piece (k + 1)) o₂ e₂ × (length o₂ ≡ length o)
+  added-next {o₂} {e₂} one =
+      let within : e₂ ≤ length o₁ = omega (arith, few k, room-next) in
+      (rw (joined-next piece k) (added-append so-far one (omega arith)), added-length one within ∙ same)
+
+-- ---- a look at indexes
 module _ (g : Group) (i : ℕ) where
   pub any-start : anyListed g i 0 ≡ false
   unfolding anyListed

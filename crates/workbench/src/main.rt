@@ -1,8 +1,8 @@
 // Answers requests to a chip that it reads from standard input, one a line: the replies go to standard output, in the order
 // of the lines. It begins after a reset with pin bytes FFh, and with 2,097,152 bytes of memory, all of them 0. What a line
-// asks for is the crate workbench_requests', what it does the crate workbench_input's, and the text of a reply the crate workbench_replies'. Replies
-// are printed where a piece of input ends, and where their text leaves no room for another. A last line needs no line feed.
-// It ends where the input does, or where the end is asked for.
+// asks for is the crate workbench_requests', what it does the crate workbench_input's, and the text of a reply the crate
+// workbench_replies'. Replies are printed where a piece of input ends, and where their text leaves no room for another. A last
+// line needs no line feed. It ends where the input does, or where the end is asked for.
 ghost use Prim.Native.Nat.{_<_, _≤_};
 ghost use lib.ListN.{length};
 use chip::Chip;
@@ -10,15 +10,15 @@ use libc::STDIN_FILENO;
 use streams::print;
 use streams::say_unread;
 use workbench_input::Bench;
-use workbench_input::desk::Desk;
-use workbench_input::desk::Fed;
-use workbench_input::desk::feed;
+use workbench_input::lines::Fed;
+use workbench_input::lines::Input;
+use workbench_input::lines::feed;
 use workbench_input::shorter_of;
 
-// The desk after a piece of input, and whether there may be more.
+// Whether there may be more input, and how far it has come.
 struct After {
     more: bool,
-    desk: Desk,
+    input: Input,
 }
 
 // Replies to standard output.
@@ -28,7 +28,7 @@ fn say(text: &[u8]) {
 
 // Bytes of input from a place on, as many as there is room for replies; the replies are printed.
 fn part(
-    d: Desk,
+    input: Input,
     store: &mut [u8],
     line: &mut [u8],
     out: &mut [u8],
@@ -38,35 +38,35 @@ fn part(
     requires { ⌜ (8192 ≤ length (now out)) × (from < length (now bytes)) ⌝ }
     ensures { λ r. ⌜ from < r .from ⌝ }
 {
-    let bench = d.bench;
-    let begun = Desk {
+    let bench = input.bench;
+    let begun = Input {
         bench,
-        size: d.size,
+        size: input.size,
         next: 0,
     };
     let f = feed(begun, store, line, out, bytes, from);
-    let n = shorter_of(f.desk.next, out.len());
+    let n = shorter_of(f.input.next, out.len());
     say(&out[..n]);
     f
 }
 
 // All bytes of a piece of input.
-fn piece(d: Desk, store: &mut [u8], line: &mut [u8], out: &mut [u8], bytes: &[u8]) -> Desk
+fn piece(begun: Input, store: &mut [u8], line: &mut [u8], out: &mut [u8], bytes: &[u8]) -> Input
     requires { ⌜ 8192 ≤ length (now out) ⌝ }
 {
-    let mut desk = d;
+    let mut input = begun;
     let mut from = 0;
     while from < bytes.len() {
-        let f = part(desk, store, line, out, bytes, from);
-        let next = f.desk;
-        desk = next;
+        let f = part(input, store, line, out, bytes, from);
+        let next = f.input;
+        input = next;
         from = f.from;
     }
-    desk
+    input
 }
 
 // One read, and what came of it.
-fn turn(d: Desk, store: &mut [u8], line: &mut [u8], out: &mut [u8], buf: &mut [u8]) -> After
+fn turn(input: Input, store: &mut [u8], line: &mut [u8], out: &mut [u8], buf: &mut [u8]) -> After
     requires { ⌜ 8192 ≤ length (now out) ⌝ }
 {
     let got = libc::read(STDIN_FILENO, buf);
@@ -75,47 +75,44 @@ fn turn(d: Desk, store: &mut [u8], line: &mut [u8], out: &mut [u8], buf: &mut [u
     }
     let n = io::count(got, buf);
     if n == 0 {
-        return After {
-            more: false,
-            desk: d,
-        };
+        return After { more: false, input };
     }
-    let desk = piece(d, store, line, out, &buf[..n]);
+    let after = piece(input, store, line, out, &buf[..n]);
     After {
-        more: !desk.bench.ended,
-        desk,
+        more: !after.bench.ended,
+        input: after,
     }
 }
 
 // All of the input; turns run out after 2^64 reads.
-fn pieces(d: Desk, store: &mut [u8], line: &mut [u8], out: &mut [u8], buf: &mut [u8]) -> Desk
+fn pieces(begun: Input, store: &mut [u8], line: &mut [u8], out: &mut [u8], buf: &mut [u8]) -> Input
     requires { ⌜ 8192 ≤ length (now out) ⌝ }
 {
-    let mut desk = d;
+    let mut input = begun;
     let mut turns = u64::MAX;
     while turns > 0 {
-        let t = turn(desk, store, line, out, buf);
-        let next = t.desk;
-        desk = next;
+        let t = turn(input, store, line, out, buf);
+        let next = t.input;
+        input = next;
         if !t.more {
-            return desk;
+            return input;
         }
         turns -= 1;
     }
-    desk
+    input
 }
 
 // A last line that has no line feed is answered as if it had one.
-fn end(d: Desk, store: &mut [u8], line: &mut [u8], out: &mut [u8])
+fn end(input: Input, store: &mut [u8], line: &mut [u8], out: &mut [u8])
     requires { ⌜ 8192 ≤ length (now out) ⌝ }
 {
-    if d.size == 0 {
+    if input.size == 0 {
         return;
     }
-    piece(d, store, line, out, b"\n");
+    piece(input, store, line, out, b"\n");
 }
 
-// The whole of a session, with all of the store lent.
+// All of the input, and its last line, with all of the store lent.
 fn work(store: &mut [u8], line: &mut [u8], out: &mut [u8], buf: &mut [u8]) {
     if out.len() < 8192 {
         return;
@@ -126,7 +123,7 @@ fn work(store: &mut [u8], line: &mut [u8], out: &mut [u8], buf: &mut [u8]) {
         lent: store.len(),
         ended: false,
     };
-    let begun = Desk {
+    let begun = Input {
         bench,
         size: 0,
         next: 0,

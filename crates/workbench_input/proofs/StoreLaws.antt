@@ -8,7 +8,7 @@ use lib.Dec.{ltb}
 use lib.ListN.{length, take, drop, getD, set, replicate, length-replicate, drop-of-length-le, replicate-append-replicate}
 use lib.Seq.{set-at, drop-cons, append-snoc, take-all, take-length, drop-length}
 use borrow.Author.Tests.{ltb-false}
-use Rattle.workbench_input.specs.Session.{memory, withMemory, shorter, cleared}
+use Rattle.workbench_input.specs.Acts.{memory, withMemory, shorter, cleared}
 
 -- ---- bytes made 0
 

@@ -1,3 +1,3 @@
--- What has to be believed of a session: what a request does (Session), and lines answered as their bytes come (Desk).
-pub mod Session
-pub mod Desk
+-- What has to be believed of the input: what a request does (Acts), and lines answered as their bytes come (Lines).
+pub mod Acts
+pub mod Lines

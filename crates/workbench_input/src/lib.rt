@@ -1,6 +1,6 @@
-// Requests carried out: the bench holds the chip, and says how many bytes of a store that the caller lends are video memory. Each
-// request gives a reply and the bench after it, and leaves the store as its definition says. The definitions are
-// specs/Session.
+// Requests carried out. The bench holds the chip, says how many bytes of a store that the caller lends are video memory, and
+// whether the end was asked for. A request gives a reply and the bench after it, and changes the store only as its definition
+// says. The definitions are specs/Acts; lines of input, each with its request, are lines.rt.
 ghost use mathlib.Core.Path.{_≡_};
 ghost use Prim.Native.Nat.{_≤_};
 ghost use lib.ListN.{length};
@@ -10,15 +10,15 @@ ghost use Rattle.chip.specs.Palette.{shown};
 ghost use Rattle.memory.specs.Memory.{readNumber, readValue, byteNumber, byteValue, byteWritten};
 ghost use Rattle.blit_frame.specs.Frame.{judgedNumber};
 ghost use Rattle.blit.specs.Transfer.{transferred};
-ghost use Rattle.workbench_input.specs.Session.{memory, withMemory, shorter, cleared, lentFrom, acted, storeAfter};
-ghost use Rattle.workbench_input.specs.Session.{withEnd, replied, afterReset, afterOut, afterIn, afterPixel, afterLend, afterRead};
+ghost use Rattle.workbench_input.specs.Acts.{withChip, memory, withMemory, shorter, cleared, lentFrom, acted, storeAfter};
+ghost use Rattle.workbench_input.specs.Acts.{withEnd, replied, afterReset, afterOut, afterIn, afterPixel, afterLend, afterRead};
 use blit_frame::Transfer;
 use chip::Chip;
 use memory::Read;
 use workbench_replies::Reply;
 use workbench_requests::Request;
 
-pub mod desk;
+pub mod lines;
 
 // The chip, how many bytes of the store are its video memory, and whether the end was asked for.
 pub struct Bench {
@@ -52,18 +52,26 @@ fn clear(store: &mut [u8], n: usize)
     }
 }
 
+// The bench with another chip.
+fn with_chip(b: Bench, chip: Chip) -> Bench
+    ensures { λ r. ⌜ r ≡ withChip b chip ⌝ }
+{
+    Bench {
+        chip,
+        lent: b.lent,
+        ended: b.ended,
+    }
+}
+
 // A reset with two pin bytes.
 fn restart(b: Bench, first: u8, second: u8) -> Acted
     ensures { λ r. ⌜ r ≡ afterReset b first second ⌝ }
 {
     let before = b.chip;
     let chip = before.reset(first, second);
+    let bench = with_chip(b, chip);
     Acted {
-        bench: Bench {
-            chip,
-            lent: b.lent,
-            ended: b.ended,
-        },
+        bench,
         reply: Reply::Number(0),
     }
 }
@@ -77,12 +85,9 @@ fn output(b: Bench, port: u16, v: u8) -> Acted
     let chip = w.chip;
     let answer = w.answer;
     let n = chip::access::number(answer);
+    let bench = with_chip(b, chip);
     Acted {
-        bench: Bench {
-            chip,
-            lent: b.lent,
-            ended: b.ended,
-        },
+        bench,
         reply: Reply::Number(n),
     }
 }
@@ -96,12 +101,9 @@ fn input(b: Bench, port: u16) -> Acted
     let chip = s.chip;
     let answer = s.answer;
     let n = chip::access::number(answer);
+    let bench = with_chip(b, chip);
     Acted {
-        bench: Bench {
-            chip,
-            lent: b.lent,
-            ended: b.ended,
-        },
+        bench,
         reply: Reply::Byte(n, s.value),
     }
 }

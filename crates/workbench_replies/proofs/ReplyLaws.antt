@@ -2,8 +2,8 @@
 use Prim.Native.Nat.{_≤_}
 use native.Mathlib.Omega.{arith}
 use mathlib.Core.Path.{_≡_, refl}
-use mathlib.Core.List.{[], _∷_}
 use lib.ListN.{length, length-append}
+use Rattle.text.specs.Ascii.{ascii}
 use Rattle.text.specs.Digits.{decimalIn, decimal}
 use Rattle.text.proofs.DigitLaws.{decimal-most}
 use Rattle.chip.specs.State.{Named}
@@ -24,23 +24,18 @@ module _ (n : Named) where
   length-reply Nothing = omega arith
   length-reply Unknown = omega arith
 
-  -- `0`
-  pub reply-done : replyText n (Number 0) ≡ 0x30 ∷ 0x0A ∷ []
+  pub reply-done : replyText n (Number 0) ≡ ascii "0\n"
   unfolding replyText decimalIn
   reply-done = refl
 
-  -- `18`
-  pub reply-refused : replyText n (Number 18) ≡ 0x31 ∷ 0x38 ∷ 0x0A ∷ []
+  pub reply-refused : replyText n (Number 18) ≡ ascii "18\n"
   unfolding replyText decimalIn
   reply-refused = refl
 
-  -- `1 FF`
-  pub reply-byte : replyText n (Byte 1 0xFF) ≡ 0x31 ∷ 0x20 ∷ 0x46 ∷ 0x46 ∷ 0x0A ∷ []
+  pub reply-byte : replyText n (Byte 1 0xFF) ≡ ascii "1 FF\n"
   unfolding replyText decimalIn
   reply-byte = refl
 
-  -- `0 FC 00 54`
-  pub reply-colour : replyText n (Colour 0xFC 0x00 0x54)
-      ≡ 0x30 ∷ 0x20 ∷ 0x46 ∷ 0x43 ∷ 0x20 ∷ 0x30 ∷ 0x30 ∷ 0x20 ∷ 0x35 ∷ 0x34 ∷ 0x0A ∷ []
+  pub reply-colour : replyText n (Colour 0xFC 0x00 0x54) ≡ ascii "0 FC 00 54\n"
   unfolding replyText
   reply-colour = refl

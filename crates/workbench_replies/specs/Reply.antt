@@ -2,7 +2,7 @@
 -- hexadecimal digits each. It goes where 8,192 bytes are left, the room that all registers ask for; with less nothing changes
 -- (`withAddedIn` and `behindIn` of the crate text). That no answer is longer, and worked answers, are proofs/ReplyLaws.
 use Prim.Native.Nat.{ℕ, _+_}
-use mathlib.Core.List.{List, [], _∷_, _++_}
+use mathlib.Core.List.{List, [], _++_}
 use Rattle.text.specs.Digits.{byteDigits, decimal}
 use Rattle.chip.specs.State.{Named}
 use Rattle.text_registers.specs.Text.{dumped}
@@ -12,10 +12,7 @@ use Rattle.workbench_replies.specs.declared.Reply.the-variants.{Number, 
 
 -- a space and a byte
 abbrev pub spaced : ℕ → List ℕ
-spaced v = 0x20 ∷ byteDigits v
-
-abbrev pub lineFeed : List ℕ
-lineFeed = 0x0A ∷ []
+spaced v = ascii " " ++ byteDigits v
 
 -- the requests, with a form each
 abbrev pub requests : List ℕ
@@ -36,10 +33,10 @@ requests =
 
 -- `0`, `0 43`, `0 FC 00 54`, all registers, the requests, nothing, and `?`
 unfoldable pub replyText : Named → Reply → List ℕ
-replyText n (Number k) = decimal k ++ lineFeed
-replyText n (Byte k v) = decimal k ++ spaced v ++ lineFeed
-replyText n (Colour red green blue) = 0x30 ∷ spaced red ++ spaced green ++ spaced blue ++ lineFeed
+replyText n (Number k) = decimal k ++ ascii "\n"
+replyText n (Byte k v) = decimal k ++ spaced v ++ ascii "\n"
+replyText n (Colour red green blue) = ascii "0" ++ spaced red ++ spaced green ++ spaced blue ++ ascii "\n"
 replyText n Registers = dumped n
 replyText n Requests = requests
 replyText n Nothing = []
-replyText n Unknown = 0x3F ∷ lineFeed
+replyText n Unknown = ascii "?\n"

@@ -1,7 +1,7 @@
--- What the words of a line ask for. The first word is the request's name, numbers follow it, each of one to eight hexadecimal digits,
--- and no word stands behind them. A line without words is passed over. A line of any other form is Unknown, and so is one with a number that does not fit its place: a port
--- is at most FFFFh; a byte, a pin byte, a pixel and a raster code are at most FFh; a direction is 0 or 1. Worked lines are
--- proofs/WorkedLines.
+-- What the words of a line ask for. The first word is the request's name, numbers follow it, each of one to eight hexadecimal
+-- digits, and no word stands behind them. A line without words is passed over. A line of any other form is Unknown, and so is
+-- one with a number that does not fit its place: a port is at most FFFFh; a byte, a pin byte, a pixel and a raster code are at
+-- most FFh; a direction is 0 or 1. Worked lines are proofs/WorkedLines.
 use Prim.Native.Nat.{ℕ, _+_}
 use mathlib.Core.Bool.{Bool, false, cond, _&&_}
 use lib.Dec.{leb, eqb}
@@ -11,6 +11,7 @@ use Rattle.text_tokens.specs.declared.Words.{Words}
 use Rattle.text_tokens.specs.declared.Number.{Number}
 use Rattle.text_tokens.specs.declared.Number.the-variants.{Of, Other}
 use Rattle.blit_frame.specs.declared.Transfer.{Transfer}
+use Rattle.workbench_requests.specs.Token.{token}
 use Rattle.workbench_requests.specs.declared.Request.{Request}
 use Rattle.workbench_requests.specs.declared.Request.the-variants.{Reset, Out, In, Pixel, Lend, Read, Write, Block, Dump, Help, Quit, Pass, Unknown}
 
@@ -79,20 +80,20 @@ transferOf w = record {
   «pattern_row» = number w 11;
 }
 
--- ---- the requests: `RESET`; `O`, `I`, `P`, `M`, `R`, `W`, `T` and `D`; `?` and `HELP`; and `Q`
+-- ---- the requests
 unfoldable pub requestOf : Words → Request
 requestOf w =
-    cond (form w 0x5245534554 2 && isByte w 1 && isByte w 2) (Reset (byte w 1) (byte w 2))
-    (cond (form w 0x4F 2 && isPort w 1 && isByte w 2) (Out (port w 1) (byte w 2))
-    (cond (form w 0x49 1 && isPort w 1) (In (port w 1))
-    (cond (form w 0x50 1 && isByte w 1) (Pixel (byte w 1))
-    (cond (form w 0x4D 1 && isNumber w 1) (Lend (number w 1))
-    (cond (form w 0x52 1 && isNumber w 1) (Read (number w 1))
-    (cond (form w 0x57 2 && isNumber w 1 && isByte w 2) (Write (number w 1) (byte w 2))
-    (cond (form w 0x54 11 && isTransfer w) (Block (transferOf w))
-    (cond (form w 0x44 0) Dump
-    (cond (form w 0x3F 0) Help
-    (cond (form w 0x48454C50 0) Help
-    (cond (form w 0x51 0) Quit
+    cond (form w (token "RESET") 2 && isByte w 1 && isByte w 2) (Reset (byte w 1) (byte w 2))
+    (cond (form w (token "O") 2 && isPort w 1 && isByte w 2) (Out (port w 1) (byte w 2))
+    (cond (form w (token "I") 1 && isPort w 1) (In (port w 1))
+    (cond (form w (token "P") 1 && isByte w 1) (Pixel (byte w 1))
+    (cond (form w (token "M") 1 && isNumber w 1) (Lend (number w 1))
+    (cond (form w (token "R") 1 && isNumber w 1) (Read (number w 1))
+    (cond (form w (token "W") 2 && isNumber w 1 && isByte w 2) (Write (number w 1) (byte w 2))
+    (cond (form w (token "T") 11 && isTransfer w) (Block (transferOf w))
+    (cond (form w (token "D") 0) Dump
+    (cond (form w (token "?") 0) Help
+    (cond (form w (token "HELP") 0) Help
+    (cond (form w (token "Q") 0) Quit
     (cond (eqb (word w 0) 0) Pass
     Unknown))))))))))))

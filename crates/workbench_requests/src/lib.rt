@@ -165,79 +165,96 @@ pub fn request_of(w: Words) -> Request
     ensures { λ r. ⌜ r ≡ requestOf w ⌝ }
 {
     let at = w.at;
-    match at[0] {
+    let name = at[0];
+    let first = at[1];
+    let second = at[2];
+    let third = at[3];
+    match name {
+        // `RESET`
         0x52_4553_4554 => {
-            if (at[3] == 0) & is_byte(at[1]) & is_byte(at[2]) {
-                return Request::Reset(byte(at[1]), byte(at[2]));
+            if (third == 0) & is_byte(first) & is_byte(second) {
+                return Request::Reset(byte(first), byte(second));
             }
             Request::Unknown
         }
+        // `O`
         0x4F => {
-            if (at[3] == 0) & is_port(at[1]) & is_byte(at[2]) {
-                return Request::Out(port(at[1]), byte(at[2]));
+            if (third == 0) & is_port(first) & is_byte(second) {
+                return Request::Out(port(first), byte(second));
             }
             Request::Unknown
         }
+        // `I`
         0x49 => {
-            if (at[2] == 0) & is_port(at[1]) {
-                return Request::In(port(at[1]));
+            if (second == 0) & is_port(first) {
+                return Request::In(port(first));
             }
             Request::Unknown
         }
+        // `P`
         0x50 => {
-            if (at[2] == 0) & is_byte(at[1]) {
-                return Request::Pixel(byte(at[1]));
+            if (second == 0) & is_byte(first) {
+                return Request::Pixel(byte(first));
             }
             Request::Unknown
         }
+        // `M`
         0x4D => {
-            if (at[2] == 0) & is_number(at[1]) {
-                return Request::Lend(number(at[1]));
+            if (second == 0) & is_number(first) {
+                return Request::Lend(number(first));
             }
             Request::Unknown
         }
+        // `R`
         0x52 => {
-            if (at[2] == 0) & is_number(at[1]) {
-                return Request::Read(number(at[1]));
+            if (second == 0) & is_number(first) {
+                return Request::Read(number(first));
             }
             Request::Unknown
         }
+        // `W`
         0x57 => {
-            if (at[3] == 0) & is_number(at[1]) & is_byte(at[2]) {
-                return Request::Write(number(at[1]), byte(at[2]));
+            if (third == 0) & is_number(first) & is_byte(second) {
+                return Request::Write(number(first), byte(second));
             }
             Request::Unknown
         }
+        // `T`
         0x54 => {
             if (at[12] == 0) & is_transfer(w) {
                 return Request::Block(transfer_of(w));
             }
             Request::Unknown
         }
+        // `D`
         0x44 => {
-            if at[1] == 0 {
+            if first == 0 {
                 return Request::Dump;
             }
             Request::Unknown
         }
+        // `?`
         0x3F => {
-            if at[1] == 0 {
+            if first == 0 {
                 return Request::Help;
             }
             Request::Unknown
         }
+        // `HELP`
         0x4845_4C50 => {
-            if at[1] == 0 {
+            if first == 0 {
                 return Request::Help;
             }
             Request::Unknown
         }
+        // `Q`
         0x51 => {
-            if at[1] == 0 {
+            if first == 0 {
                 return Request::Quit;
             }
             Request::Unknown
         }
+        // no word
         0x00 => Request::Pass,
         _ => Request::Unknown,
     }

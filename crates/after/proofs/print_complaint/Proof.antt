@@ -22,8 +22,8 @@ print-complaint-spec =
     (tie.spec
     (λ c. search needs)
     (λ c κs. search needs)
-    (λ c. let a = c .before .before .before .before .before .before .args in (omega (arith, behind-within 133 (now (a .text)) 0 (complaint name (a .r)) (complaint-most name (a .r)) (omega arith), c .before .before .complain .ensures .0, c .before .before .complain .kept .0)))
-    (λ c. let a = c .before .before .before .before .before .before .before .args in sym (length-take-le _ _ (omega (arith, behind-within 133 (now (a .text)) 0 (complaint name (a .r)) (complaint-most name (a .r)) (omega arith), c .before .before .before .complain .ensures .0, c .before .before .before .complain .kept .0))))
+    (λ c. let a = c .before .before .before .before .before .before .args in (omega (arith, behind-within 133 (now (a .text)) 0 (complaint name (a .r)) (complaint-most name (a .r)) (omega arith))))
+    (λ c. let a = c .before .before .before .before .before .before .before .args in sym (length-take-le _ _ (omega (arith, behind-within 133 (now (a .text)) 0 (complaint name (a .r)) (complaint-most name (a .r)) (omega arith)))))
     (λ c κs. search needs)
     (λ c. search needs)
     (λ c. search needs))

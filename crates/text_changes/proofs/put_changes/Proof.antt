@@ -14,9 +14,9 @@ put-changes-spec =
     tie.close
     (tie.spec
     (λ c κs. search needs)
-    (λ c κs. let a = c .before .before .before .before .before .before .args in omega (arith, c .before .before .before .put-groups .ensures .next, groups-most (named (a .before)) (named (a .after)) 9, c .before .before .before .before .before .before .pre))
+    (λ c κs. let a = c .before .before .before .before .before .before .args in omega (arith, groups-most (named (a .before)) (named (a .after)) 9))
     (λ c. search needs)
     (λ c. let a = c .before .before .before .before .before .before .before .before .before .args in
     let r = c .before .before .before .before .before .before .put-groups .ensures in
     let e = c .before .before .put-colours .ensures in
-    added-append r e (omega (arith, r .next, e .next, groups-most (named (a .before)) (named (a .after)) 9, colours-most (named (a .before)) (named (a .after)) 256, c .before .before .before .before .before .before .before .before .before .pre))))
+    added-append r e (omega (arith, groups-most (named (a .before)) (named (a .after)) 9, colours-most (named (a .before)) (named (a .after)) 256))))

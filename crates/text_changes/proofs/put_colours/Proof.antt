@@ -1,6 +1,6 @@
 -- The loop's invariant: the lines of the first k entries stand in the output.
-use Prim.Native.Nat.{ℕ, _*_, _-_, _≤_}
-use mathlib.Core.Path.{_≡_, refl, sym, _∙_}
+use Prim.Native.Nat.{ℕ, _-_, _≤_}
+use mathlib.Core.Path.{_≡_, refl}
 use native.Mathlib.Omega.{arith}
 use borrow.Author.Needs.{needs}
 use denote.Ref.{now}
@@ -8,10 +8,9 @@ use lib.ListN.{length}
 use Rattle.chip.specs.State.{named}
 use Rattle.chip.specs.Palette.{entry}
 use Rattle.text.specs.Adding.{Added}
-use Rattle.text.proofs.Adding.{added-none, added-append, added-length}
-use Rattle.text_registers.proofs.Growing.{joined-start, joined-next}
+use Rattle.text_registers.proofs.Growing.{added-start, room-next, added-next}
 use Rattle.text_changes.specs.Changes.{colourChange, coloursTo}
-use Rattle.text_changes.proofs.Lengths.{colour-most, colours-most}
+use Rattle.text_changes.proofs.Lengths.{colour-most}
 use Rattle.text_changes.proofs.put_colours.Statement.{statement}
 use Rattle.text_changes.proofs.put_colours.Tie as tie
 
@@ -28,20 +27,22 @@ put-colours-spec =
     (tie.spec
     Inv-loop
     μ-loop
-    (λ c. let a = c .before .args in (rw (joined-start (λ (e : ℕ). colourChange e (entry (named (a .before)) e) (entry (named (a .after)) e))) (added-none _ _), refl, omega arith))
+    (λ c. (added-start _ _ _, refl, omega arith))
     (λ c. omega arith)
     (λ c κs. search needs)
     (λ c κs. search needs)
+    -- room for a line
     (λ c κs. let l = c .before .before .before .before .loop in
     let a = c .before .before .before .before .before .before .args in
-    omega (arith, l .inv .0 .next, colours-most (named (a .before)) (named (a .after)) (l .k), l .inv .1, c .before .before .before .before .before .before .pre))
+    room-next (λ (e : ℕ). colourChange e (entry (named (a .before)) e) (entry (named (a .after)) e)) 24 (λ e. colour-most e _ _) (now (a .out)) (a .from) (l .k) (omega arith) (l .out) (l .at) (l .inv .0) (l .inv .1))
     (λ c. omega arith)
     (λ c. omega arith)
+    -- a line more, or none
     (λ c. let l = c .before .before .before .before .before .before .before .loop in
     let a = c .before .before .before .before .before .before .before .before .before .args in
     let one = rw (c .before .before .before .before .before .entry .ensures, c .before .before .before .before .entry2 .ensures) at (c .before .before .put-colour .ensures) in
-    let room : c .before .before .put-colour .result ≤ length (now (a .out)) = omega (arith, one .next, colour-most (l .k) (entry (named (a .before)) (l .k)) (entry (named (a .after)) (l .k)), l .inv .0 .next, colours-most (named (a .before)) (named (a .after)) (l .k), c .before .before .before .before .before .before .before .before .before .pre) in
-    let same : length (l .out) ≡ length (now (a .out)) = l .inv .1 in
-    (rw (joined-next (λ (e : ℕ). colourChange e (entry (named (a .before)) e) (entry (named (a .after)) e)) (l .k)) (added-append (l .inv .0) one room), added-length one (omega arith) ∙ same, omega arith))
+    let (more, same) = added-next (λ (e : ℕ). colourChange e (entry (named (a .before)) e) (entry (named (a .after)) e)) 24 (λ e. colour-most e _ _) (now (a .out)) (a .from) (l .k) (omega arith) (l .out) (l .at) (l .inv .0) (l .inv .1) one in
+    (more, same, omega arith))
     (λ c. c .before .loop .inv .1)
+    -- all of them
     (λ c. let all : c .before .loop .k ≡ 256 = omega arith in rw all at (c .before .loop .inv .0)))

@@ -1,16 +1,14 @@
 -- The loop's invariant: the lines of the first g groups stand in the output.
-use Prim.Native.Nat.{ℕ, _*_, _-_, _≤_}
-use mathlib.Core.Path.{_≡_, refl, sym, _∙_}
+use Prim.Native.Nat.{ℕ, _-_, _≤_}
+use mathlib.Core.Path.{_≡_, refl}
 use native.Mathlib.Omega.{arith}
-use borrow.Author.Needs.{needs}
 use denote.Ref.{now}
 use lib.ListN.{length}
 use Rattle.chip.specs.State.{named}
 use Rattle.text.specs.Adding.{Added}
-use Rattle.text.proofs.Adding.{added-none, added-append, added-length}
-use Rattle.text_registers.proofs.Growing.{joined-start, joined-next}
+use Rattle.text_registers.proofs.Growing.{added-start, room-next, added-next}
 use Rattle.text_changes.specs.Changes.{indexes, registersTo, groupsTo}
-use Rattle.text_changes.proofs.Lengths.{group-most, groups-most}
+use Rattle.text_changes.proofs.Lengths.{group-most}
 use Rattle.text_changes.proofs.put_groups.Statement.{statement}
 use Rattle.text_changes.proofs.put_groups.Tie as tie
 
@@ -27,17 +25,18 @@ put-groups-spec =
     (tie.spec
     Inv-loop
     μ-loop
-    (λ c. let a = c .before .args in (rw (joined-start (λ (g : ℕ). registersTo (named (a .before)) (named (a .after)) g (indexes g))) (added-none _ _), refl, omega arith))
+    (λ c. (added-start _ _ _, refl, omega arith))
+    -- room for a group's lines
     (λ c κs. let l = c .before .before .loop in
     let a = c .before .before .before .before .args in
-    omega (arith, l .inv .0 .next, groups-most (named (a .before)) (named (a .after)) (l .g), l .inv .1, c .before .before .before .before .pre))
+    room-next (λ (g : ℕ). registersTo (named (a .before)) (named (a .after)) g (indexes g)) 3584 (group-most (named (a .before)) (named (a .after))) (now (a .out)) (a .from) (l .g) (omega arith) (l .out) (l .at) (l .inv .0) (l .inv .1))
     (λ c. omega arith)
     (λ c. omega arith)
+    -- a group's lines more
     (λ c. let l = c .before .before .before .before .before .loop in
     let a = c .before .before .before .before .before .before .before .args in
-    let one = c .before .before .put-registers .ensures in
-    let room : c .before .before .put-registers .result ≤ length (now (a .out)) = omega (arith, one .next, group-most (named (a .before)) (named (a .after)) (l .g), l .inv .0 .next, groups-most (named (a .before)) (named (a .after)) (l .g), c .before .before .before .before .before .before .before .pre) in
-    let same : length (l .out) ≡ length (now (a .out)) = l .inv .1 in
-    (rw (joined-next (λ (g : ℕ). registersTo (named (a .before)) (named (a .after)) g (indexes g)) (l .g)) (added-append (l .inv .0) one room), added-length one (omega arith) ∙ same, omega arith))
+    let (more, same) = added-next (λ (g : ℕ). registersTo (named (a .before)) (named (a .after)) g (indexes g)) 3584 (group-most (named (a .before)) (named (a .after))) (now (a .out)) (a .from) (l .g) (omega arith) (l .out) (l .at) (l .inv .0) (l .inv .1) (c .before .before .put-registers .ensures) in
+    (more, same, omega arith))
     (λ c. c .before .loop .inv .1)
+    -- all of them
     (λ c. let all : c .before .loop .g ≡ 9 = omega arith in rw all at (c .before .loop .inv .0)))

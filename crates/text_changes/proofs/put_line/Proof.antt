@@ -18,9 +18,9 @@ put-line-spec =
     (λ c κs. search needs)
     (λ c κs. search needs)
     (λ c. search needs)
-    (λ c κs. let a = c .before .before .before .before .before .before .before .before .before .before .before .args in omega (arith, c .before .before .before .before .before .before .before .before .put-name .ensures .next, name-most (a .g) (a .i), c .before .before .before .before .before .before .before .before .before .before .before .pre))
+    (λ c κs. let a = c .before .before .before .before .before .before .before .before .before .before .before .args in omega (arith, name-most (a .g) (a .i)))
     (λ c. search needs)
     (λ c. let a = c .before .before .before .before .before .before .before .before .before .before .before .before .before .before .args in
     let n = c .before .before .before .before .before .before .before .before .before .before .before .put-name .ensures in
     let t = rw (c .before .before .before .before .before .before .before .before .digit .ensures, c .before .before .before .before .before .before .before .digit2 .ensures, c .before .before .before .before .before .before .digit3 .ensures, c .before .before .before .before .before .digit4 .ensures) at (c .before .before .put .ensures) in
-    added-append n t (omega (arith, n .next, t .next, name-most (a .g) (a .i), c .before .before .before .before .before .before .before .before .before .before .before .before .before .before .pre))))
+    added-append n t (omega (arith, name-most (a .g) (a .i)))))

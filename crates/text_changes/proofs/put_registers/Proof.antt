@@ -1,16 +1,15 @@
 -- The loop's invariant: the lines of the first k indexes stand in the output.
-use Prim.Native.Nat.{ℕ, _*_, _-_, _≤_}
-use mathlib.Core.Path.{_≡_, refl, sym, _∙_}
+use Prim.Native.Nat.{ℕ, _-_, _≤_}
+use mathlib.Core.Path.{_≡_, refl, _∙_}
 use native.Mathlib.Omega.{arith}
 use borrow.Author.Needs.{needs}
 use denote.Ref.{now}
 use lib.ListN.{length}
 use Rattle.chip.specs.State.{named}
 use Rattle.text.specs.Adding.{Added}
-use Rattle.text.proofs.Adding.{added-none, added-append, added-length}
-use Rattle.text_registers.proofs.Growing.{joined-start, joined-next}
+use Rattle.text_registers.proofs.Growing.{added-start, room-next, added-next}
 use Rattle.text_changes.specs.Changes.{registerAt, registersTo}
-use Rattle.text_changes.proofs.Lengths.{register-most, registers-most}
+use Rattle.text_changes.proofs.Lengths.{register-most}
 use Rattle.text_changes.proofs.put_registers.Statement.{statement}
 use Rattle.text_changes.proofs.put_registers.Tie as tie
 
@@ -29,20 +28,22 @@ put-registers-spec =
     μ-loop
     (λ c κs. search needs)
     (λ c κs. search needs)
-    (λ c. let a = c .before .before .before .args in (rw (joined-start (λ (i : ℕ). registerAt (named (a .before)) (named (a .after)) (a .g) i)) (added-none _ _), refl, omega arith))
+    (λ c. (added-start _ _ _, refl, omega arith))
     (λ c. omega arith)
     (λ c κs. search needs)
     (λ c κs. search needs)
+    -- room for a line
     (λ c κs. let l = c .before .before .before .before .loop in
     let a = c .before .before .before .before .before .before .before .before .args in
-    omega (arith, l .inv .0 .next, registers-most (named (a .before)) (named (a .after)) (a .g) (l .k), l .inv .1, c .before .before .before .before .before .index-count .ensures .1, c .before .before .before .before .before .before .before .before .pre))
+    room-next (λ (i : ℕ). registerAt (named (a .before)) (named (a .after)) (a .g) i) 14 (λ i. register-most (a .g) i _ _) (now (a .out)) (a .from) (l .k) (omega arith) (l .out) (l .at) (l .inv .0) (l .inv .1))
     (λ c. omega arith)
     (λ c. omega arith)
+    -- a line more, or none
     (λ c. let l = c .before .before .before .before .before .before .before .loop in
     let a = c .before .before .before .before .before .before .before .before .before .before .before .args in
     let one = rw (c .before .before .before .before .before .get .ensures, c .before .before .before .before .get2 .ensures, c .before .before .before .before .before .before .before .before .before .group-at .ensures) at (c .before .before .put-register .ensures) in
-    let room : c .before .before .put-register .result ≤ length (now (a .out)) = omega (arith, one .next, register-most (a .g) (l .k) (c .before .before .before .before .before .get .result) (c .before .before .before .before .get2 .result), l .inv .0 .next, registers-most (named (a .before)) (named (a .after)) (a .g) (l .k), c .before .before .before .before .before .before .before .before .index-count .ensures .1, c .before .before .before .before .before .before .before .before .before .before .before .pre) in
-    let same : length (l .out) ≡ length (now (a .out)) = l .inv .1 in
-    (rw (joined-next (λ (i : ℕ). registerAt (named (a .before)) (named (a .after)) (a .g) i) (l .k)) (added-append (l .inv .0) one room), added-length one (omega arith) ∙ same, omega arith))
+    let (more, same) = added-next (λ (i : ℕ). registerAt (named (a .before)) (named (a .after)) (a .g) i) 14 (λ i. register-most (a .g) i _ _) (now (a .out)) (a .from) (l .k) (omega arith) (l .out) (l .at) (l .inv .0) (l .inv .1) one in
+    (more, same, omega arith))
     (λ c. c .before .loop .inv .1)
+    -- all of them
     (λ c. let all : c .before .loop .k ≡ c .before .before .index-count .result = omega arith in rw (all ∙ c .before .before .index-count .ensures .0) at (c .before .loop .inv .0)))

@@ -16,5 +16,5 @@ put-changes-spec =
     (λ c κs. search needs)
     (λ c. search needs)
     (λ c. let a = c .before .before .before .before .before .before .args in
-    let s = added-in 38400 (now (a .out)) 0 (changed (named (c .before .before .before .before .new .result)) (named (a .after))) (omega (arith, c .before .before .before .before .before .before .pre)) (c .before .before .tell-changes .ensures .0) (c .before .before .tell-changes .ensures .1) in
+    let s = added-in 38400 (now (a .out)) 0 (changed (named (c .before .before .before .before .new .result)) (named (a .after))) (omega arith) (c .before .before .tell-changes .ensures .0) (c .before .before .tell-changes .ensures .1) in
     rw (c .before .before .before .before .new .ensures) at s))

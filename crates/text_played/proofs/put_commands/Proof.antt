@@ -21,13 +21,13 @@ put-commands-spec =
     (λ c. search needs)
     (λ c κs. let n = c .before .before .before .before .before .before .before .before .before .before .before .before .args .count in
     let w = c .before .before .before .before .before .before .before .before .put .ensures in
-    let d = then-in 20 (decimal n) (decimal-most 20 n) w (omega (arith, w .next, c .before .before .before .before .before .before .before .before .before .before .before .before .pre)) (c .before .before .before .before .add-decimal .ensures .0) (c .before .before .before .before .add-decimal .ensures .1) in
-    omega (arith, d .next, length-append (ascii "commands ") (decimal n), decimal-most 20 n, c .before .before .before .before .before .before .before .before .before .before .before .before .pre))
+    let d = then-in 20 (decimal n) (decimal-most 20 n) w (omega arith) (c .before .before .before .before .add-decimal .ensures .0) (c .before .before .before .before .add-decimal .ensures .1) in
+    omega (arith, length-append (ascii "commands ") (decimal n), decimal-most 20 n))
     (λ c. search needs)
     (λ c. let n = c .before .before .before .before .before .before .before .before .before .before .before .before .before .before .before .args .count in
     let few = decimal-most 20 n in
     let room = c .before .before .before .before .before .before .before .before .before .before .before .before .before .before .before .pre in
     let w = c .before .before .before .before .before .before .before .before .before .before .before .put .ensures in
-    let d = then-in 20 (decimal n) few w (omega (arith, w .next, room)) (c .before .before .before .before .before .before .before .add-decimal .ensures .0) (c .before .before .before .before .before .before .before .add-decimal .ensures .1) in
+    let d = then-in 20 (decimal n) few w (omega arith) (c .before .before .before .before .before .before .before .add-decimal .ensures .0) (c .before .before .before .before .before .before .before .add-decimal .ensures .1) in
     let e = c .before .before .put2 .ensures in
-    added-append d e (omega (arith, d .next, e .next, length-append (ascii "commands ") (decimal n), few, room))))
+    added-append d e (omega (arith, length-append (ascii "commands ") (decimal n)))))

@@ -15,9 +15,9 @@ put-tale-spec =
     tie.close
     (tie.spec
     (λ c κs. search needs)
-    (λ c κs. omega (arith, c .before .before .before .put-changes .ensures .next, changed-most (named fresh) (named (c .before .before .before .before .before .before .args .after)), c .before .before .before .before .before .before .pre))
+    (λ c κs. omega (arith, changed-most (named fresh) (named (c .before .before .before .before .before .before .args .after))))
     (λ c. search needs)
     (λ c. let a = c .before .before .before .before .before .before .before .before .before .args in
     let d = c .before .before .before .before .before .before .put-changes .ensures in
     let e = c .before .before .put-commands .ensures in
-    added-append d e (omega (arith, d .next, e .next, changed-most (named fresh) (named (a .after)), line-most (a .count), c .before .before .before .before .before .before .before .before .before .pre))))
+    added-append d e (omega (arith, changed-most (named fresh) (named (a .after)), line-most (a .count)))))

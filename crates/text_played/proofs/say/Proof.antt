@@ -1,8 +1,7 @@
 -- Too little room, the refusal, and the text.
 use borrow.Author.Needs.{needs}
 use native.Mathlib.Omega.{arith}
-use Prim.Native.Nat.{_+_}
-use mathlib.Core.Path.{_≡_, refl, ap, _∙_}
+use mathlib.Core.Path.{_≡_, ap}
 use lib.ListN.{length}
 use borrow.Author.Tests.{lt-ltb, le-ltb}
 use Rattle.chip.specs.State.{named}
@@ -17,10 +16,13 @@ say-spec =
     (tie.spec
     (λ c. search needs)
     (λ c. search needs)
+    -- too little room
     (λ c. (rw (c .before .before .outcome2 .given .1, lt-ltb _ _ (c .if1 .taken)), rw (c .before .before .outcome2 .given .1, lt-ltb _ _ (c .if1 .taken))))
-    (λ c κs. omega (arith, c .before .if1 .left))
+    (λ c κs. omega arith)
+    -- the refusal
     (λ c. (rw (c .before .outcome .given .1), rw (c .before .outcome .given .1)))
+    -- the text
     (λ c. search needs)
     (λ c. let e = c .before .before .put-tale .ensures in
-    let n : c .before .before .put-tale .result ≡ length (tale (named (c .before .before .before .before .before .before .before .before .before .args .after)) (c .before .before .before .before .before .before .outcome2 .given .0 .0)) = omega (arith, e .next) in
+    let n : c .before .before .put-tale .result ≡ length (tale (named (c .before .before .before .before .before .before .before .before .before .args .after)) (c .before .before .before .before .before .before .outcome2 .given .0 .0)) = omega arith in
     (rw (c .before .before .before .before .before .before .outcome2 .given .1, le-ltb _ _ (c .before .before .before .before .if1 .left)) (ap Text n), rw (c .before .before .before .before .before .before .outcome2 .given .1, le-ltb _ _ (c .before .before .before .before .if1 .left)) (e .now))))

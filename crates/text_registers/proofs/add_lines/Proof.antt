@@ -2,22 +2,22 @@
 use Prim.Native.Nat.{ℕ, _*_, _-_, _≤_}
 use mathlib.Core.Path.{_≡_, refl, _∙_}
 use native.Mathlib.Omega.{arith}
+use borrow.Author.Needs.{needs}
 use denote.Ref.{now}
 use lib.ListN.{length}
 use Rattle.chip.specs.State.{named}
 use Rattle.text.specs.Adding.{Added}
-use Rattle.text.proofs.Adding.{added-none, added-append, added-length}
 use Rattle.text_registers.specs.Text.{lineAt, linesTo}
-use Rattle.text_registers.proofs.Growing.{joined-start, joined-next}
-use Rattle.text_registers.proofs.Lengths.{letters-most, lineAt-most, lines-most}
+use Rattle.text_registers.proofs.Growing.{added-start, room-next, added-next}
+use Rattle.text_registers.proofs.Lengths.{lineAt-most}
 use Rattle.text_registers.proofs.add_lines.Statement.{statement}
 use Rattle.text_registers.proofs.add_lines.Tie as tie
 
 abbrev Inv-loop : tie.InvT-loop
-Inv-loop chip g out₀ from at₀ k₀ out at k = Added out₀ from (linesTo g (named chip) k) out at × (length out ≡ length out₀) × (k ≤ 16)
+Inv-loop chip g out₀ from n at₀ k₀ out at k = Added out₀ from (linesTo g (named chip) k) out at × (length out ≡ length out₀) × (k ≤ n)
 
 abbrev μ-loop : tie.MeasureT-loop
-μ-loop chip g out₀ from at₀ k₀ out at k = 16 - k
+μ-loop chip g out₀ from n at₀ k₀ out at k = n - k
 
 pub add-lines-spec : {M : Type 1} → statement M
 add-lines-spec =
@@ -25,18 +25,20 @@ add-lines-spec =
     (tie.spec
     Inv-loop
     μ-loop
-    (λ c. let a = c .before .args in (rw (joined-start (λ (j : ℕ). lineAt (a .g) (named (a .chip)) (16 * j))) (added-none _ _), refl, omega arith))
+    (λ c κs. search needs)
+    (λ c. (added-start _ _ _, refl, omega arith))
     (λ c. omega arith)
+    -- room for a line
     (λ c κs. let l = c .before .before .loop in
-    let a = c .before .before .before .before .args in
-    omega (arith, l .inv .0 .next, lines-most (a .g) (named (a .chip)) 7 (letters-most (a .g)) (l .k), l .inv .1, c .before .before .before .before .pre))
+    let a = c .before .before .before .before .before .args in
+    (omega arith, room-next (λ (j : ℕ). lineAt (a .g) (named (a .chip)) (16 * j)) 56 (λ j. lineAt-most (a .g) (named (a .chip)) (16 * j)) (now (a .out)) (a .from) (l .k) (omega arith) (l .out) (l .at) (l .inv .0) (l .inv .1)))
     (λ c. omega arith)
     (λ c. omega arith)
+    -- a line more
     (λ c. let l = c .before .before .before .before .before .loop in
-    let a = c .before .before .before .before .before .before .before .args in
-    let one = c .before .before .add-line .ensures in
-    let room : c .before .before .add-line .result ≤ length (now (a .out)) = omega (arith, one .next, lineAt-most (a .g) (named (a .chip)) 7 (letters-most (a .g)) (16 * l .k), l .inv .0 .next, lines-most (a .g) (named (a .chip)) 7 (letters-most (a .g)) (l .k), c .before .before .before .before .before .before .before .pre) in
-    let same : length (l .out) ≡ length (now (a .out)) = l .inv .1 in
-    (rw (joined-next (λ (j : ℕ). lineAt (a .g) (named (a .chip)) (16 * j)) (l .k)) (added-append (l .inv .0) one room), added-length one (omega arith) ∙ same, omega arith))
+    let a = c .before .before .before .before .before .before .before .before .args in
+    let (more, same) = added-next (λ (j : ℕ). lineAt (a .g) (named (a .chip)) (16 * j)) 56 (λ j. lineAt-most (a .g) (named (a .chip)) (16 * j)) (now (a .out)) (a .from) (l .k) (omega arith) (l .out) (l .at) (l .inv .0) (l .inv .1) (c .before .before .add-line .ensures) in
+    (more, same, omega arith))
     (λ c. c .before .loop .inv .1)
-    (λ c. let all : c .before .loop .k ≡ 16 = omega arith in rw all at (c .before .loop .inv .0)))
+    -- all of them
+    (λ c. let all : c .before .loop .k ≡ c .before .before .count-across .result = omega arith in rw (all ∙ c .before .before .count-across .ensures .0) at (c .before .loop .inv .0)))

@@ -9,10 +9,10 @@ use Rattle.text_registers.proofs.any_listed.Statement.{statement}
 use Rattle.text_registers.proofs.any_listed.Tie as tie
 
 abbrev Inv-loop : tie.InvT-loop
-Inv-loop g i any₀ k₀ any k = (any ≡ anyListed g i k) × (k ≤ 16)
+Inv-loop g i n any₀ k₀ any k = (any ≡ anyListed g i k) × (k ≤ n)
 
 abbrev μ-loop : tie.MeasureT-loop
-μ-loop g i any₀ k₀ any k = 16 - k
+μ-loop g i n any₀ k₀ any k = n - k
 
 pub any-listed-spec : {M : Type 1} → statement M
 any-listed-spec =
@@ -26,4 +26,4 @@ any-listed-spec =
     (λ c. omega arith)
     (λ c. omega arith)
     (λ c. (rw (any-next (c .before .before .before .args .g) (c .before .before .before .args .i) (c .before .before .loop .k), c .is-listed .ensures, c .before .before .loop .inv .0), omega arith))
-    (λ c. let all : c .before .loop .k ≡ 16 = omega arith in rw all at (c .before .loop .inv .0)))
+    (λ c. let all : c .before .loop .k ≡ c .before .before .args .n = omega arith in rw all at (c .before .loop .inv .0)))

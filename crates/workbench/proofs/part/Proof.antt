@@ -4,7 +4,7 @@ use borrow.Author.Needs.{needs}
 use borrow.Author.Tests.{le-leb}
 use denote.Ref.{now}
 use lib.Seq.{length-take-le}
-use Rattle.workbench_input.specs.Desk.{Place, sittingAt}
+use Rattle.workbench_input.specs.Lines.{Place, lentInputAt}
 use Rattle.workbench_input.proofs.PartLaws.{fed-moves}
 use Rattle.workbench.proofs.part.Statement.{statement}
 use Rattle.workbench.proofs.part.Tie as tie
@@ -22,6 +22,6 @@ part-spec =
     (λ c. search needs)
     (λ c. search needs)
     (λ c. let a = c .before .before .before .before .before .before .before .before .before .before .before .before .before .before .before .before .before .before .args in
-    let s = sittingAt (record { bench = a .d .bench; size = a .d .size; next = 0 }) (now (a .store)) (now (a .line)) (now (a .out)) in
+    let s = lentInputAt (record { bench = a .input .bench; size = a .input .size; next = 0 }) (now (a .store)) (now (a .line)) (now (a .out)) in
     let e = ap (λ (p : Place). p .from) (c .before .before .before .before .before .before .before .before .before .feed .ensures) in
     rw e (fed-moves s (a .from) (now (a .bytes)) (c .before .before .before .before .before .before .before .before .before .before .before .before .before .before .before .before .before .before .pre .1) (le-leb _ _ (c .before .before .before .before .before .before .before .before .before .before .before .before .before .before .before .before .before .before .pre .0)))))

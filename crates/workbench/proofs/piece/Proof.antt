@@ -8,11 +8,11 @@ use Rattle.workbench.proofs.piece.Statement.{statement}
 use Rattle.workbench.proofs.piece.Tie as tie
 
 abbrev Inv-loop : tie.InvT-loop
-Inv-loop store₀ line₀ out₀ bytes desk₀ from₀ store line out desk from =
+Inv-loop store₀ line₀ out₀ bytes input₀ from₀ store line out input from =
     (length store ≡ length store₀) × (length line ≡ length line₀) × (length out ≡ length out₀)
 
 abbrev μ-loop : tie.MeasureT-loop
-μ-loop store₀ line₀ out₀ bytes desk₀ from₀ store line out desk from = length bytes - from
+μ-loop store₀ line₀ out₀ bytes input₀ from₀ store line out input from = length bytes - from
 
 pub piece-spec : {M : Type 1} → statement M
 piece-spec =
@@ -22,7 +22,7 @@ piece-spec =
     μ-loop
     (λ c. search needs)
     (λ c κs. search needs)
-    (λ c. omega (arith, c .before .before .before .before .before .before .before .part .ensures))
+    (λ c. omega arith)
     (λ c. search needs)
     (λ c. search needs)
     (λ c. search needs)

@@ -8,11 +8,11 @@ use Rattle.workbench.proofs.pieces.Statement.{statement}
 use Rattle.workbench.proofs.pieces.Tie as tie
 
 abbrev Inv-loop : tie.InvT-loop
-Inv-loop store₀ line₀ out₀ buf₀ desk₀ turns₀ store line out buf desk turns =
+Inv-loop store₀ line₀ out₀ buf₀ input₀ turns₀ store line out buf input turns =
     (length store ≡ length store₀) × (length line ≡ length line₀) × (length out ≡ length out₀) × (length buf ≡ length buf₀)
 
 abbrev μ-loop : tie.MeasureT-loop
-μ-loop store₀ line₀ out₀ buf₀ desk₀ turns₀ store line out buf desk turns = turns
+μ-loop store₀ line₀ out₀ buf₀ input₀ turns₀ store line out buf input turns = turns
 
 pub pieces-spec : {M : Type 1} → statement M
 pieces-spec =

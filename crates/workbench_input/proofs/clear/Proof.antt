@@ -4,7 +4,7 @@ use mathlib.Core.Path.{_≡_, refl, _∙_}
 use native.Mathlib.Omega.{arith}
 use denote.Ref.{now}
 use lib.ListN.{length, length-set}
-use Rattle.workbench_input.specs.Session.{cleared}
+use Rattle.workbench_input.specs.Acts.{cleared}
 use Rattle.workbench_input.proofs.StoreLaws.{cleared-none, cleared-more}
 use Rattle.workbench_input.proofs.clear.Statement.{statement}
 use Rattle.workbench_input.proofs.clear.Tie as tie

@@ -2,7 +2,7 @@
 use borrow.Author.Needs.{needs}
 use mathlib.Core.Path.{sym, _∙_}
 use borrow.Author.Tests.{not-true, not-false, le-leb, lt-leb}
-use Rattle.workbench_input.specs.Session.{afterLend, lentFrom}
+use Rattle.workbench_input.specs.Acts.{afterLend, lentFrom}
 use Rattle.workbench_input.proofs.lend.Statement.{statement}
 use Rattle.workbench_input.proofs.lend.Tie as tie
 

@@ -8,4 +8,5 @@ restart-spec =
     tie.close
     (tie.spec
     (λ c κs. search needs)
-    (λ c. rw (c .reset .ensures)))
+    (λ c κs. search needs)
+    (λ c. rw (c .with-chip .ensures, c .before .reset .ensures)))

@@ -16,4 +16,4 @@ add-number-spec =
     (λ c. search needs)
     (λ c. let a = c .before .before .before .before .before .args in
     let s = added-in 20 (now (a .out)) (a .at) (decimal (a .n)) (c .before .before .before .before .before .pre) (c .before .before .add-decimal .ensures .0) (c .before .before .add-decimal .ensures .1) in
-    (s, omega (arith, s .next, decimal-most 20 (a .n)))))
+    (s, omega (arith, decimal-most 20 (a .n)))))

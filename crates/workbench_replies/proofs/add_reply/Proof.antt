@@ -12,49 +12,63 @@ unfolding replyText
 add-reply-spec =
     tie.close
     (tie.spec
+    -- the needs of a number
     (λ c. search needs)
     (λ c κs. search needs)
     (λ c. search needs)
-    (λ c κs. omega (arith, c .before .before .before .before .add-number .ensures .1, c .before .before .before .before .before .before .before .before .before .before .pre))
-    (λ c. search needs)
-    (λ c κs. search needs)
-    (λ c. search needs)
-    (λ c κs. search needs)
-    (λ c κs. search needs)
-    (λ c. search needs)
-    (λ c κs. omega (arith, c .before .before .before .before .before .before .add-number2 .ensures .1, c .before .before .before .before .before .before .before .before .before .before .before .before .pre))
-    (λ c. search needs)
-    (λ c. search needs)
-    (λ c. search needs)
-    (λ c. search needs)
-    (λ c κs. search needs)
-    (λ c κs. search needs)
-    (λ c κs. search needs)
-    (λ c κs. search needs)
-    (λ c κs. search needs)
-    (λ c κs. search needs)
+    (λ c κs. omega arith)
+    -- of a number and a byte
     (λ c. search needs)
     (λ c κs. search needs)
     (λ c. search needs)
     (λ c κs. search needs)
+    (λ c κs. search needs)
+    (λ c. search needs)
+    (λ c κs. omega arith)
+    -- of a colour
+    (λ c. search needs)
+    (λ c. search needs)
     (λ c. search needs)
     (λ c. search needs)
     (λ c κs. search needs)
+    (λ c κs. search needs)
+    (λ c κs. search needs)
+    (λ c κs. search needs)
+    (λ c κs. search needs)
+    (λ c κs. search needs)
     (λ c. search needs)
+    (λ c κs. search needs)
+    -- of all registers
+    (λ c. search needs)
+    (λ c κs. search needs)
+    -- of the requests
     (λ c. search needs)
     (λ c. search needs)
     (λ c κs. search needs)
+    -- of nothing
     (λ c. search needs)
-    (λ c. rw (c .before .before .before .before .before .before .before .before .before .before .reply .given .1) (added-append (c .before .before .before .before .before .before .before .add-number .ensures .0) (c .before .before .add .ensures) (omega (arith, c .before .before .before .before .before .before .before .add-number .ensures .1, c .before .before .add .ensures .next, c .before .before .before .before .before .before .before .before .before .before .before .before .before .pre))))
+    -- of a line that was not known
+    (λ c. search needs)
+    (λ c. search needs)
+    (λ c κs. search needs)
+    -- what stands there: a number and a line feed
+    (λ c. search needs)
+    (λ c. rw (c .before .before .before .before .before .before .before .before .before .before .reply .given .1) (added-append (c .before .before .before .before .before .before .before .add-number .ensures .0) (c .before .before .add .ensures) (omega arith)))
+    -- a number, a space, a byte and a line feed
     (λ c. search needs)
     (λ c. rw (c .before .before .before .before .before .before .before .before .before .before .before .before .reply2 .given .1, append-assoc)
-    (added-append (c .before .before .before .before .before .before .before .before .before .add-number2 .ensures .0) (rw (c .before .before .before .before .before .digit2 .ensures, c .before .before .before .before .before .before .digit .ensures) at (c .before .before .add2 .ensures)) (omega (arith, c .before .before .before .before .before .before .before .before .before .add-number2 .ensures .1, c .before .before .add2 .ensures .next, c .before .before .before .before .before .before .before .before .before .before .before .before .before .before .before .pre))))
+    (added-append (c .before .before .before .before .before .before .before .before .before .add-number2 .ensures .0) (rw (c .before .before .before .before .before .digit2 .ensures, c .before .before .before .before .before .before .digit .ensures) at (c .before .before .add2 .ensures)) (omega arith)))
+    -- a colour
     (λ c. search needs)
     (λ c. rw (c .before .before .before .before .before .before .before .before .before .before .before .before .reply3 .given .1) (rw (c .before .before .before .before .before .digit8 .ensures, c .before .before .before .before .before .before .digit7 .ensures, c .before .before .before .before .before .before .before .digit6 .ensures, c .before .before .before .before .before .before .before .before .digit5 .ensures, c .before .before .before .before .before .before .before .before .before .digit4 .ensures, c .before .before .before .before .before .before .before .before .before .before .digit3 .ensures) at (c .before .before .add3 .ensures)))
+    -- all registers
     (λ c. search needs)
     (λ c. rw (c .before .before .before .before .enum-told .given .1) (c .before .before .add-registers .ensures))
+    -- the requests
     (λ c. search needs)
     (λ c. rw (c .before .before .before .before .before .enum-told2 .given .1) (c .before .before .add4 .ensures))
+    -- nothing
     (λ c. rw (c .enum-told3 .given .1) (added-none _ _))
+    -- `?` and a line feed
     (λ c. search needs)
     (λ c. rw (c .before .before .before .before .before .enum-told4 .given .1) (c .before .before .add5 .ensures)))

@@ -1,7 +1,7 @@
 -- The request, what it does, and its reply put into the output.
 use borrow.Author.Needs.{needs}
-use Rattle.workbench_input.proofs.desk.answer.Statement.{statement}
-use Rattle.workbench_input.proofs.desk.answer.Tie as tie
+use Rattle.workbench_input.proofs.lines.answer.Statement.{statement}
+use Rattle.workbench_input.proofs.lines.answer.Tie as tie
 
 pub answer-spec : {M : Type 1} → statement M
 answer-spec =

@@ -1,10 +1,9 @@
 -- After the end, a comment, too long, and any other.
-use mathlib.Core.Path.{sym, _∙_}
 use borrow.Author.Needs.{needs}
 use borrow.Author.Tests.{lt-ltb, le-ltb, eq-eqb, ne-eqb}
-use Rattle.workbench_input.specs.Desk.{requestIn}
-use Rattle.workbench_input.proofs.desk.request_in.Statement.{statement}
-use Rattle.workbench_input.proofs.desk.request_in.Tie as tie
+use Rattle.workbench_input.specs.Lines.{requestIn}
+use Rattle.workbench_input.proofs.lines.request_in.Statement.{statement}
+use Rattle.workbench_input.proofs.lines.request_in.Tie as tie
 
 pub request-in-spec : {M : Type 1} → statement M
 unfolding requestIn

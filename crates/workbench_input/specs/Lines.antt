@@ -1,8 +1,7 @@
 -- Lines of input, each answered by a text. Once the end was asked for, every line is passed over. A line that begins with
--- `#` is passed over. Any other of more than 255 bytes is not known. A sitting is what there is between two bytes of input,
--- lent bytes included. A line feed has the line answered, any other byte goes behind the line, where there is room for it.
--- Input is fed while any reply has room behind the text. That input in parts is the same as in one is proofs/PartLaws; how
--- the line and the text grow, proofs/DeskLaws.
+-- `#` is passed over. Any other of more than 255 bytes is not known. A line feed has the line answered, any other byte goes
+-- behind the line, where there is room for it. Input is fed while any reply has room behind the text. That input in parts is
+-- the same as in one is proofs/PartLaws; how the line and the text grow, proofs/LineLaws.
 use Prim.Native.Nat.{ℕ, _+_}
 use mathlib.Core.Bool.{Bool, cond}
 use mathlib.Core.List.{List, [], _∷_}
@@ -15,12 +14,12 @@ use Rattle.workbench_requests.specs.Request.{requestOf}
 use Rattle.workbench_requests.specs.declared.Request.{Request}
 use Rattle.workbench_requests.specs.declared.Request.the-variants.{Pass, Unknown}
 use Rattle.workbench_replies.specs.Reply.{replyText}
-use Rattle.workbench_input.specs.Session.{acted, storeAfter}
+use Rattle.workbench_input.specs.Acts.{acted, storeAfter}
 use Rattle.workbench_input.specs.declared.Bench.{Bench}
 use Rattle.workbench_input.specs.declared.Acted.{Acted}
-use Rattle.workbench_input.specs.declared.desk.Answered.{Answered}
-use Rattle.workbench_input.specs.declared.desk.Desk.{Desk}
-use Rattle.workbench_input.specs.declared.desk.Fed.{Fed}
+use Rattle.workbench_input.specs.declared.lines.Answered.{Answered}
+use Rattle.workbench_input.specs.declared.lines.Input.{Input}
+use Rattle.workbench_input.specs.declared.lines.Fed.{Fed}
 
 -- ---- one line
 
@@ -51,9 +50,9 @@ outLeft out at a = withAddedIn 8192 out at (textOf a)
 
 -- ---- bytes as they come
 
--- what there is between two bytes of input: the bench, the store, the bytes lent for a line, of which the first `size` are
--- the line so far, and the bytes lent for replies, of which the first `next` are the text so far
-pub record Sitting : Type 0 where
+-- how far the input has come, with the lent bytes: the bench, the store, the bytes lent for a line, of which the first `size`
+-- are the line so far, and the bytes lent for replies, of which the first `next` are the text so far
+pub record LentInput : Type 0 where
   pub bench : Bench
   pub store : List ℕ
   pub line : List ℕ
@@ -61,21 +60,21 @@ pub record Sitting : Type 0 where
   pub out : List ℕ
   pub next : ℕ
 
-abbrev pub lineSoFar : Sitting → List ℕ
+abbrev pub lineSoFar : LentInput → List ℕ
 lineSoFar s = take (s .size) (s .line)
 
-abbrev pub textSoFar : Sitting → List ℕ
+abbrev pub textSoFar : LentInput → List ℕ
 textSoFar s = take (s .next) (s .out)
 
-abbrev pub withLine : Sitting → List ℕ → ℕ → Sitting
+abbrev pub withLine : LentInput → List ℕ → ℕ → LentInput
 withLine s line size = record { bench = s .bench; store = s .store; line = line; size = size; out = s .out; next = s .next }
 
 -- a byte goes behind the line so far, where there is room for it
-unfoldable pub byteKept : Sitting → ℕ → Sitting
+unfoldable pub byteKept : LentInput → ℕ → LentInput
 byteKept s c = cond (ltb (s .size) (length (s .line))) (withLine s (set (s .line) (s .size) c) (s .size + 1)) s
 
 -- the line is answered, the reply goes behind the text so far, and the next line begins
-unfoldable pub lineDone : Sitting → Sitting
+unfoldable pub lineDone : LentInput → LentInput
 lineDone s = let a = lineActed (s .bench) (s .store) (lineSoFar s) in record {
   bench = a .bench;
   store = storeLeft (s .bench) (s .store) (lineSoFar s);
@@ -86,39 +85,39 @@ lineDone s = let a = lineActed (s .bench) (s .store) (lineSoFar s) in record {
 }
 
 -- a byte is taken
-unfoldable pub taken : Sitting → ℕ → Sitting
+unfoldable pub taken : LentInput → ℕ → LentInput
 taken s c = cond (eqb c 0x0A) (lineDone s) (byteKept s c)
 
-unfoldable pub takenAll : Sitting → List ℕ → Sitting
+unfoldable pub takenAll : LentInput → List ℕ → LentInput
 takenAll s [] = s
 takenAll s (c ∷ cs) = takenAll (taken s c) cs
 
 -- ---- bytes while there is room for a reply
 
--- a sitting, and the place of the next byte
+-- the same, and the place of the next byte
 pub record Place : Type 0 where
-  pub sitting : Sitting
+  pub input : LentInput
   pub from : ℕ
 
-abbrev pub place : Sitting → ℕ → Place
-place s i = record { sitting = s; from = i }
+abbrev pub place : LentInput → ℕ → Place
+place s i = record { input = s; from = i }
 
 -- every reply finds its room: 8,192 bytes behind the text
-abbrev pub hasRoom : Sitting → Bool
+abbrev pub hasRoom : LentInput → Bool
 hasRoom s = leb (s .next + 8192) (length (s .out))
 
-unfoldable pub fed : Sitting → ℕ → List ℕ → Place
+unfoldable pub fed : LentInput → ℕ → List ℕ → Place
 fed s i [] = place s i
 fed s i (c ∷ cs) = cond (hasRoom s) (fed (taken s c) (i + 1) cs) (place s i)
 
--- ---- a desk over lent bytes
+-- ---- the code's structs beside the lent bytes
 
-abbrev pub sittingAt : Desk → List ℕ → List ℕ → List ℕ → Sitting
-sittingAt d store line out = record { bench = d .bench; store = store; line = line; size = d .size; out = out; next = d .next }
+abbrev pub lentInputAt : Input → List ℕ → List ℕ → List ℕ → LentInput
+lentInputAt i store line out = record { bench = i .bench; store = store; line = line; size = i .size; out = out; next = i .next }
 
 abbrev pub placeAt : Fed → List ℕ → List ℕ → List ℕ → Place
-placeAt f store line out = place (sittingAt (f .desk) store line out) (f .from)
+placeAt f store line out = place (lentInputAt (f .input) store line out) (f .from)
 
 -- input from a place on
-abbrev pub fedFrom : Desk → List ℕ → List ℕ → List ℕ → ℕ → List ℕ → Place
-fedFrom d store line out from bytes = fed (sittingAt d store line out) from (drop from bytes)
+abbrev pub fedFrom : Input → List ℕ → List ℕ → List ℕ → ℕ → List ℕ → Place
+fedFrom i store line out from bytes = fed (lentInputAt i store line out) from (drop from bytes)

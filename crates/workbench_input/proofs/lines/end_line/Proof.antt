@@ -4,8 +4,8 @@ use denote.Ref.{now}
 use lib.Seq.{length-take-le}
 use mathlib.Core.Path.{sym}
 use Rattle.workbench_input.proofs.StoreLaws.{take-shorter}
-use Rattle.workbench_input.proofs.desk.end_line.Statement.{statement}
-use Rattle.workbench_input.proofs.desk.end_line.Tie as tie
+use Rattle.workbench_input.proofs.lines.end_line.Statement.{statement}
+use Rattle.workbench_input.proofs.lines.end_line.Tie as tie
 
 pub end-line-spec : {M : Type 1} → statement M
 end-line-spec =

@@ -1,11 +1,11 @@
-// Lines answered, one at a time or out of input as it comes. The store, the line so far and the replies stand in bytes that
-// the caller lends. The definitions are specs/Desk.
+// Lines of input, each answered by a text: one line at a time, or as their bytes come. The store, the line so far and the text of
+// the replies stand in bytes that the caller lends. The definitions are specs/Lines; what a request does is lib.rt.
 ghost use mathlib.Core.Path.{_≡_};
 ghost use Prim.Native.Nat.{_+_};
 ghost use mathlib.Core.Bool.{cond};
 ghost use lib.Dec.{leb, ltb};
 ghost use lib.ListN.{length, take, set};
-ghost use Rattle.workbench_input.specs.Desk.{requestIn, lineActed, storeLeft, answeredIn, outLeft, placeAt, fedFrom};
+ghost use Rattle.workbench_input.specs.Lines.{requestIn, lineActed, storeLeft, answeredIn, outLeft, placeAt, fedFrom};
 use crate::Bench;
 use crate::act;
 use crate::shorter_of;
@@ -21,16 +21,16 @@ pub struct Answered {
     pub next: usize,
 }
 
-// The bench, how many bytes the line so far has, and where the next reply goes.
-pub struct Desk {
+// How far the input has come: the bench, how many bytes the line so far has, and where the next byte of the text goes.
+pub struct Input {
     pub bench: Bench,
     pub size: usize,
     pub next: usize,
 }
 
-// The desk after some bytes of input, and the place of the next one.
+// The input after some of its bytes, and the place of the next one.
 pub struct Fed {
-    pub desk: Desk,
+    pub input: Input,
     pub from: usize,
 }
 
@@ -110,23 +110,23 @@ fn has_room(size: usize, next: usize) -> bool
 
 // Bytes of input from a place on, to their end or while there is room for a reply.
 pub fn feed(
-    d: Desk,
+    begun: Input,
     store: &mut [u8],
     line: &mut [u8],
     out: &mut [u8],
     bytes: &[u8],
     from: usize,
 ) -> Fed
-    ensures { λ r. ⌜ placeAt r (now (store .exit)) (now (line .exit)) (now (out .exit)) ≡ fedFrom d (now (store .entry)) (now (line .entry)) (now (out .entry)) from (now (bytes .entry)) ⌝ }
+    ensures { λ r. ⌜ placeAt r (now (store .exit)) (now (line .exit)) (now (out .exit)) ≡ fedFrom begun (now (store .entry)) (now (line .entry)) (now (out .entry)) from (now (bytes .entry)) ⌝ }
 {
-    let mut bench = d.bench;
-    let mut size = d.size;
-    let mut next = d.next;
+    let mut bench = begun.bench;
+    let mut size = begun.size;
+    let mut next = begun.next;
     let mut i = from;
     while i < bytes.len() {
         if !has_room(out.len(), next) {
             return Fed {
-                desk: Desk { bench, size, next },
+                input: Input { bench, size, next },
                 from: i,
             };
         }
@@ -143,7 +143,7 @@ pub fn feed(
         size = 0;
     }
     Fed {
-        desk: Desk { bench, size, next },
+        input: Input { bench, size, next },
         from: i,
     }
 }

@@ -2,8 +2,8 @@
 use Prim.Native.Nat.{_+_, _≤_, _<_}
 use native.Mathlib.Omega.{arith}
 use borrow.Author.Tests.{le-leb, lt-leb}
-use Rattle.workbench_input.proofs.desk.has_room.Statement.{statement}
-use Rattle.workbench_input.proofs.desk.has_room.Tie as tie
+use Rattle.workbench_input.proofs.lines.has_room.Statement.{statement}
+use Rattle.workbench_input.proofs.lines.has_room.Tie as tie
 
 pub has-room-spec : {M : Type 1} → statement M
 has-room-spec =

@@ -1,5 +1,5 @@
--- Laws of the desk: how the line so far and the text so far grow; and one turn of the input's loop in each of its ways: what is still
--- to come from here is the whole of it.
+-- How the line so far and the text so far grow; and one turn of the input's loop in each of its ways: what is still to come from
+-- here is the whole of it.
 use Prim.Native.Nat.{ℕ, _+_, _≤_, _<_}
 use mathlib.Core.Path.{_≡_, refl, ap, _∙_}
 use mathlib.Core.Bool.{Bool, true, false, cond}
@@ -10,13 +10,12 @@ use lib.Dec.{ltb}
 use lib.ListN.{length, take, drop, getD, set, length-append, drop-of-length-le}
 use lib.Seq.{take-suc-set, length-take-le, take-at, drop-cons}
 use borrow.Author.Tests.{lt-ltb, le-ltb, leb-true, eq-eqb, ne-eqb}
-use Rattle.lists.specs.Put.{put}
 use Rattle.text.specs.Adding.{withAddedIn, behindIn}
-use Rattle.workbench_input.specs.Desk.{Sitting, place, hasRoom, lineSoFar, textSoFar, byteKept, withLine, lineDone, taken, fed, lineActed, storeLeft, textOf, answeredIn, outLeft}
-use Rattle.workbench_input.specs.declared.desk.Answered.{Answered}
+use Rattle.workbench_input.specs.Lines.{LentInput, place, hasRoom, lineSoFar, textSoFar, byteKept, withLine, lineDone, taken, fed, lineActed, storeLeft, textOf, answeredIn, outLeft}
+use Rattle.workbench_input.specs.declared.lines.Answered.{Answered}
 
 -- ---- the line so far grows by a byte, where there is room for it, and by none where there is not
-module _ (s : Sitting) (c : ℕ) where
+module _ (s : LentInput) (c : ℕ) where
   pub line-grows : s .size < length (s .line) → lineSoFar (byteKept s c) ≡ lineSoFar s ++ (c ∷ [])
   unfolding byteKept
   line-grows h = rw (lt-ltb _ _ h, add-one) (take-suc-set (s .line) (s .size) c h)
@@ -26,7 +25,7 @@ module _ (s : Sitting) (c : ℕ) where
   line-full h = rw (le-ltb _ _ h)
 
 -- ---- the text so far grows by the reply, where every reply has room
-pub text-grows : (s : Sitting) → hasRoom s ≡ true → textSoFar (lineDone s) ≡ textSoFar s ++ textOf (lineActed (s .bench) (s .store) (lineSoFar s))
+pub text-grows : (s : LentInput) → hasRoom s ≡ true → textSoFar (lineDone s) ≡ textSoFar s ++ textOf (lineActed (s .bench) (s .store) (lineSoFar s))
 unfolding lineDone withAddedIn behindIn
 text-grows s e =
     let t : List ℕ = textOf (lineActed (s .bench) (s .store) (lineSoFar s)) in
@@ -37,12 +36,12 @@ text-grows s e =
     (length-append (take (s .next) (s .out)) t ∙ ap (λ (n : ℕ). n + length t) (length-take-le (s .next) (s .out) k)))
 
 -- a line begins empty
-pub line-begins : (s : Sitting) → lineSoFar (lineDone s) ≡ []
+pub line-begins : (s : LentInput) → lineSoFar (lineDone s) ≡ []
 unfolding lineDone
 line-begins s = refl
 
 -- ---- a byte taken, by the results of the code
-module _ (s : Sitting) (c : ℕ) where
+module _ (s : LentInput) (c : ℕ) where
   pub taken-kept : (c ≡ 0x0A → ⊥) → (line₁ : List ℕ) (size₁ : ℕ) → size₁ ≡ cond (ltb (s .size) (length (s .line))) (s .size + 1) (s .size)
       → line₁ ≡ cond (ltb (s .size) (length (s .line))) (set (s .line) (s .size) c) (s .line) → withLine s line₁ size₁ ≡ taken s c
   unfolding taken byteKept
@@ -61,7 +60,7 @@ module _ (s : Sitting) (c : ℕ) where
   taken-line h a store₁ out₁ ea es eo = rw (eq-eqb _ _ h, ea, es, eo)
 
 -- ---- a turn of the loop
-module _ (s : Sitting) (i : ℕ) (bytes : List ℕ) where
+module _ (s : LentInput) (i : ℕ) (bytes : List ℕ) where
   pub fed-end : length bytes ≤ i → place s i ≡ fed s i (drop i bytes)
   unfolding fed
   fed-end h = rw (drop-of-length-le bytes h)
@@ -70,7 +69,7 @@ module _ (s : Sitting) (i : ℕ) (bytes : List ℕ) where
   unfolding fed
   fed-full h e = rw (drop-cons bytes i 0 h, e)
 
-  pub fed-more : i < length bytes → hasRoom s ≡ true → (t : Sitting) → t ≡ taken s (getD bytes i 0)
+  pub fed-more : i < length bytes → hasRoom s ≡ true → (t : LentInput) → t ≡ taken s (getD bytes i 0)
       → fed t (i + 1) (drop (i + 1) bytes) ≡ fed s i (drop i bytes)
   unfolding fed
   fed-more h e t is = rw (drop-cons bytes i 0 h, e, is, add-one)

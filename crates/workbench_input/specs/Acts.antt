@@ -1,7 +1,8 @@
--- What a request does to the bench and to the store, and what it replies. The bench is a chip and the number of bytes that are lent;
--- the memory is the first bytes of the store, so many as are lent, or all of it where it is shorter. Only `Lend`, `Write` and `Block`
--- change the store, and no byte behind the memory. The numbers are document 01's, "Numbers returned"; what an access to a port and
--- an access to memory do is said in the crates chip, memory, blit_frame and blit.
+-- What a request does to the bench and to the store, and what it replies. The bench is a chip, the number of bytes that are
+-- lent, and whether the end was asked for. The memory is the first bytes of the store, so many as are lent, or all of it
+-- where it is shorter. Only `Lend`, `Write` and `Block` change the store, and no byte behind the memory. The numbers are
+-- document 01's, "Numbers returned"; what an access to a port and an access to memory do is said in the crates chip, memory,
+-- blit_frame and blit.
 use Prim.Native.Nat.{ℕ}
 use mathlib.Core.Bool.{Bool, true, cond, _&&_}
 use mathlib.Core.List.{List, _++_}
@@ -33,7 +34,7 @@ withChip b c = record { chip = c; lent = b .lent; ended = b .ended }
 abbrev pub withLent : Bench → ℕ → Bench
 withLent b n = record { chip = b .chip; lent = n; ended = b .ended }
 
--- the end was asked for: no line behind it is answered (Desk)
+-- the end was asked for: no line behind it is answered (Lines)
 abbrev pub withEnd : Bench → Bench
 withEnd b = record { chip = b .chip; lent = b .lent; ended = true }
 
@@ -53,7 +54,8 @@ withMemory lent store m = m ++ drop lent store
 abbrev pub shorter : ℕ → ℕ → ℕ
 shorter lent size = cond (ltb lent size) lent size
 
--- whether so many bytes of a store of this size can be lent; its first bytes are then 0
+-- whether so many bytes of a store of this size can be lent; which lengths are allowed is document 01's, "Video memory
+-- and block transfers" (HOUSE). The store's first bytes are then 0
 abbrev pub lendable : ℕ → ℕ → Bool
 lendable n size = lengthAllowed n && leb n size
 
@@ -72,6 +74,7 @@ afterOut b w = replied (withChip b (w .chip)) (Number (answerNumber (w .answer))
 abbrev pub afterIn : Bench → Seen → Acted
 afterIn b s = replied (withChip b (s .chip)) (Byte (answerNumber (s .answer)) (s .value))
 
+-- the colour shown is document 01's, "Palette" (HOUSE)
 abbrev pub afterPixel : Bench → Rgb → Acted
 afterPixel b e = replied b (Colour (e .red) (e .green) (e .blue))
 

@@ -2,8 +2,8 @@
 use native.Mathlib.Omega.{arith}
 use borrow.Author.Needs.{needs}
 use borrow.Author.Tests.{lt-ltb, le-ltb}
-use Rattle.workbench_input.proofs.desk.keep.Statement.{statement}
-use Rattle.workbench_input.proofs.desk.keep.Tie as tie
+use Rattle.workbench_input.proofs.lines.keep.Statement.{statement}
+use Rattle.workbench_input.proofs.lines.keep.Tie as tie
 
 pub keep-spec : {M : Type 1} → statement M
 keep-spec =
