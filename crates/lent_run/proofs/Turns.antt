@@ -64,8 +64,8 @@ number-bad : (v : Verdict) → (verdictNumber v ≡ 0 → ⊥) → v ≡ Bad (re
 number-bad Done h = absurd (h refl)
 number-bad (Bad why) h = ap Bad (sym (reason-known why))
 
--- a refused command leaves the chip
-bad-stays : (c : Chip) (acc : ℕ) (r : CommandRead) → (verdictNumber (one c acc r .verdict) ≡ 0 → ⊥) → one c acc r .chip ≡ c
+-- a command that is refused, by its number, hands back the very chip
+pub bad-stays : (c : Chip) (acc : ℕ) (r : CommandRead) → (verdictNumber (one c acc r .verdict) ≡ 0 → ⊥) → one c acc r .chip ≡ c
 unfolding one done
 bad-stays c acc Unknown h = refl
 bad-stays c acc (Known (Out p v)) h = write-refused c p v (λ z. h (answered-number (portWritten c p v .answer) ∙ z))
