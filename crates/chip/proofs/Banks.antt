@@ -1,15 +1,14 @@
 -- The registers of a group as one list, its bank: a table, or the one byte of MSR or PALMASK. What a register's byte is and what
 -- replacing one does, said over the bank and for every group at once; the laws of names rest on these two equations. Then that
--- colours and the picture are in no bank, and that groups are told apart by their numbers.
+-- colours and the picture are in no bank.
 use Prim.Native.Nat.{ℕ, _<_}
 use native.Mathlib.Omega.{arith}
 use mathlib.Core.Bool.{Bool, true, false, cond}
-use mathlib.Core.Path.{_≡_, refl, sym, ap, _∙_}
+use mathlib.Core.Path.{_≡_, refl}
 use mathlib.Core.List.{List, [], _∷_}
 use lib.ListN.{getD, set}
-use borrow.Author.Tests.{eqb-true, eq-eqb}
-use Rattle.chip_registers.specs.Groups.{numberOf, groupAt, is, isIndexed}
-use Rattle.chip_registers.proofs.TableLaws.{group-numbered}
+use borrow.Author.Tests.{eq-eqb}
+use Rattle.chip_registers.specs.Groups.{numberOf, is, isIndexed}
 use Rattle.chip_registers.specs.declared.Group.{Group}
 use Rattle.chip_registers.specs.declared.Group.the-variants.{Cr, Sr, Gr, Xr, Fr, Mr, Msr, Palmask, Ar}
 use Rattle.chip.specs.State.{Named, sameRegisters}
@@ -81,7 +80,3 @@ bank-same Ar n colours lit = refl
 
 pub is-self : (g : Group) → is g g ≡ true
 is-self g = eq-eqb (numberOf g) (numberOf g) refl
-
--- groups with one number are one group
-pub is-same : (g h : Group) → is g h ≡ true → g ≡ h
-is-same g h e = sym (group-numbered g) ∙ ap groupAt (eqb-true (numberOf g) (numberOf h) e) ∙ group-numbered h

@@ -11,6 +11,7 @@ use lib.Dec.{eqb}
 use Rattle.lists.specs.Bits.{bit, isSet}
 use Rattle.chip_registers.specs.Groups.{numberOf, is, rowOf}
 use Rattle.chip_registers.specs.WriteRule.{leftOpen, writableNow, written}
+use Rattle.chip_registers.proofs.TableLaws.{is-same}
 use Rattle.chip_registers.proofs.WriteLaws.{bit-written, written-byte, byte-now}
 use Rattle.chip_registers.specs.declared.Group.{Group}
 use Rattle.chip_registers.specs.declared.Group.the-variants.{Cr, Sr, Gr, Xr, Fr, Mr, Msr, Palmask, Ar}
@@ -18,7 +19,7 @@ use Rattle.chip.specs.State.{Named, sameRegisters, withPicture}
 use Rattle.chip.specs.Names.{register, replaced, locked, writableAt, received}
 use Rattle.chip.specs.Palette.{coloured}
 use Rattle.chip.specs.declared.Rgb.{Rgb}
-use Rattle.chip.proofs.Banks.{bank, place, register-bank, bank-replaced, bank-same, is-self, is-same}
+use Rattle.chip.proofs.Banks.{bank, place, register-bank, bank-replaced, bank-same, is-self}
 
 -- the register has its place in the state: every index below 256 does, where tables hold 256 bytes
 abbrev pub Has : Group → Named → ℕ → Type 0

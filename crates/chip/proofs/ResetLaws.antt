@@ -14,7 +14,7 @@ use Rattle.lists.specs.Tab.{tab}
 use Rattle.lists.proofs.Tab.{tab-at, tab-bytes}
 use Rattle.chip_registers.specs.Extension.{XR}
 use Rattle.chip_registers.specs.Groups.{is, rowOf, resetOf}
-use Rattle.chip_registers.proofs.TableLaws.{byte-rows}
+use Rattle.chip_registers.proofs.TableLaws.{byte-rows, is-same}
 use Rattle.chip_registers.specs.declared.Row.{Row}
 use Rattle.chip_registers.specs.declared.Row.the-variants.{Listed, Unlisted}
 use Rattle.chip_registers.specs.declared.Group.{Group}
@@ -23,7 +23,7 @@ use Rattle.chip.specs.State.{named, indexByte}
 use Rattle.chip.specs.Names.{register}
 use Rattle.chip.specs.Palette.{rgb, entry}
 use Rattle.chip.specs.Reset.{resetByte, reset}
-use Rattle.chip.proofs.Banks.{bank, place, room, place-room, register-bank, is-same}
+use Rattle.chip.proofs.Banks.{bank, place, room, place-room, register-bank}
 use Rattle.chip.proofs.NameLaws.{Bytes}
 
 -- a group's bank after a reset
