@@ -1,12 +1,18 @@
 // Prints the listing of a script file that it reads from standard input: document 01, "The listing program".
-// The text is the crate text_listing'. A file is at most twelve blocks, 6,144 bytes; one byte more is read, so that a
-// longer file is seen to be longer and is refused, not cut.
+// The text is the crate text_listing's. A file is at most twelve blocks, 6,144 bytes; one byte more is read, so that a
+// longer file is seen to be longer and is refused, not cut. Where a file is refused, standard error has the place, the
+// number and its words, in one line.
 ghost use mathlib.Core.Path.{_≡_};
 ghost use lib.ListN.{length};
-use libc::STDIN_FILENO;
-use libc::STDOUT_FILENO;
+use libc::STDERR_FILENO;
+use script::Refusal;
+use streams::Got;
+use streams::print;
+use streams::read_input;
+use streams::say_unread;
 use text_listing::Listed;
 use text_listing::list;
+use text_refusals::complain;
 
 // Room for the commands of 1,008 steps, 32 bytes a step.
 fn commands_buffer() -> [u8; 32256]
@@ -22,18 +28,35 @@ fn text_buffer() -> [u8; 96825]
     [0; 96825]
 }
 
-// The text in one write, or nothing.
+// What is wrong with a file, in one write.
+fn print_complaint(r: Refusal, text: &mut [u8]) {
+    let n = complain(text, 0, b"listing", r);
+    io::write_all(STDERR_FILENO, &text[..n]);
+}
+
+// The text; of a file that is refused its line, and then the complaint. The buffer is room for any text.
 fn print_listing(file: &[u8], work: &mut [u8], text: &mut [u8]) {
-    let Listed::Text(n) = list(file, work, text) else {
-        return;
-    };
-    io::write_all(STDOUT_FILENO, &text[..n]);
+    match list(file, work, text) {
+        Listed::Text(n) => print(b"listing", &text[..n]),
+        Listed::Refused(r, n) => {
+            print(b"listing", &text[..n]);
+            print_complaint(r, text);
+        }
+        Listed::Short => {}
+    }
+}
+
+// A file that could be read to its end.
+fn answer(file: &mut [u8], work: &mut [u8], text: &mut [u8]) {
+    match read_input(file) {
+        Got::Bytes(n) => print_listing(&file[..n], work, text),
+        Got::Failed => say_unread(b"listing"),
+    }
 }
 
 fn main() {
     let mut file = [0u8; 6145];
     let mut work = commands_buffer();
     let mut text = text_buffer();
-    let n = io::read_full(STDIN_FILENO, &mut file);
-    print_listing(&file[..n], &mut work, &mut text);
+    answer(&mut file, &mut work, &mut text);
 }

@@ -2,11 +2,12 @@
 -- program"). And in front of it where: a word, a number in decimal, a colon and a space, as `show: block 3: `. The longest line of a
 -- refusal has 29 bytes, and a place 22 and its word: proofs/Adding.
 use Prim.Native.Nat.{ℕ}
-use mathlib.Core.List.{List, [], _∷_, _++_}
+use mathlib.Core.List.{List, _++_}
+use Rattle.text.specs.Ascii.{ascii}
 use Rattle.text.specs.Digits.{decimal}
 
 abbrev pub refused : ℕ → List ℕ
-refused number = (0x72 ∷ 0x65 ∷ 0x66 ∷ 0x75 ∷ 0x73 ∷ 0x65 ∷ 0x64 ∷ 0x20 ∷ []) ++ decimal number ++ (0x0A ∷ [])
+refused number = ascii "refused " ++ decimal number ++ ascii "\n"
 
 abbrev pub placed : List ℕ → ℕ → List ℕ
-placed word k = word ++ decimal k ++ (0x3A ∷ 0x20 ∷ [])
+placed word k = word ++ decimal k ++ ascii ": "

@@ -1,3 +1,2 @@
--- The laws of this crate: how long the text is, and the answers (Showing), and how long a complaint is (Complaining). The other folders have a function's proof each.
+-- The laws of this crate: how long the text is, and the answers (Showing). The other folders have a function's proof each.
 pub mod Showing
-pub mod Complaining

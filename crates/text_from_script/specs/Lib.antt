@@ -1,3 +1,2 @@
--- What has to be believed of a script file as text (Show), and of what is said of one that is refused (Complaint).
+-- What has to be believed of a script file as text (Show).
 pub mod Show
-pub mod Complaint

@@ -14,16 +14,13 @@ use Rattle.script.specs.File.{stepCount, stepsChecked, checked}
 use Rattle.script.specs.Reader.{nextOf}
 use Rattle.script_commands.specs.Expansion.{ways, expanded, commandsOf}
 use Rattle.script_commands.specs.Translation.{stepsTo, translated}
+use Rattle.text.specs.Ascii.{ascii}
 use Rattle.text.specs.Digits.{decimalIn}
 use Rattle.text_listing.specs.Line.{linesOf}
 use Rattle.text_listing.specs.Text.{text}
 
--- "FIELD XR80, mask 80h, value 80h": `OUT 3D6 80`, `IN 3D7`, `MERGE 7F 80`, `OUTA 3D7`
-pub case-12 : linesOf (expanded (Field 3 0x80 0x80 0x80))
-    ≡ (0x4F ∷ 0x55 ∷ 0x54 ∷ 0x20 ∷ 0x33 ∷ 0x44 ∷ 0x36 ∷ 0x20 ∷ 0x38 ∷ 0x30 ∷ 0x0A ∷ [])
-    ++ (0x49 ∷ 0x4E ∷ 0x20 ∷ 0x33 ∷ 0x44 ∷ 0x37 ∷ 0x0A ∷ [])
-    ++ (0x4D ∷ 0x45 ∷ 0x52 ∷ 0x47 ∷ 0x45 ∷ 0x20 ∷ 0x37 ∷ 0x46 ∷ 0x20 ∷ 0x38 ∷ 0x30 ∷ 0x0A ∷ [])
-    ++ (0x4F ∷ 0x55 ∷ 0x54 ∷ 0x41 ∷ 0x20 ∷ 0x33 ∷ 0x44 ∷ 0x37 ∷ 0x0A ∷ [])
+-- "FIELD XR80, mask 80h, value 80h"
+pub case-12 : linesOf (expanded (Field 3 0x80 0x80 0x80)) ≡ ascii "OUT 3D6 80\nIN 3D7\nMERGE 7F 80\nOUTA 3D7\n"
 unfolding linesOf expanded ways
 case-12 = refl
 
@@ -31,22 +28,18 @@ case-12 = refl
 abbrev pub file-13 : List ℕ
 file-13 = (0 ∷ 0 ∷ 1 ∷ 1 ∷ 0 ∷ 0 ∷ 1 ∷ 3 ∷ 0x60 ∷ 0x43 ∷ 0 ∷ 0 ∷ []) ++ replicate 498 0 ++ (0x9F ∷ 0xB8 ∷ [])
 
--- `steps 1 commands 2`, `OUT 3D6 60`, `OUT 3D7 43`
-pub case-13 : text file-13 32256
-    ≡ (0x73 ∷ 0x74 ∷ 0x65 ∷ 0x70 ∷ 0x73 ∷ 0x20 ∷ 0x31 ∷ 0x20 ∷ 0x63 ∷ 0x6F ∷ 0x6D ∷ 0x6D ∷ 0x61 ∷ 0x6E ∷ 0x64 ∷ 0x73 ∷ 0x20 ∷ 0x32 ∷ 0x0A ∷ [])
-    ++ (0x4F ∷ 0x55 ∷ 0x54 ∷ 0x20 ∷ 0x33 ∷ 0x44 ∷ 0x36 ∷ 0x20 ∷ 0x36 ∷ 0x30 ∷ 0x0A ∷ [])
-    ++ (0x4F ∷ 0x55 ∷ 0x54 ∷ 0x20 ∷ 0x33 ∷ 0x44 ∷ 0x37 ∷ 0x20 ∷ 0x34 ∷ 0x33 ∷ 0x0A ∷ [])
+pub case-13 : text file-13 32256 ≡ ascii "steps 1 commands 2\nOUT 3D6 60\nOUT 3D7 43\n"
 unfolding text translated checked stepsChecked blockLegal contentLegal wordSum firstNot every stepCount stepOf shaped judged names legal fits idle groupAt rowOf XR nextOf stepsTo commandsOf expanded ways linesOf decimalIn
 case-13 = refl
 
--- the same file with its check one off: `refused 6`
+-- the same file with its check one off
 pub case-13-damaged : text ((0 ∷ 0 ∷ 1 ∷ 1 ∷ 0 ∷ 0 ∷ 1 ∷ 3 ∷ 0x60 ∷ 0x43 ∷ 0 ∷ 0 ∷ []) ++ replicate 498 0 ++ (0xA0 ∷ 0xB8 ∷ [])) 32256
-    ≡ 0x72 ∷ 0x65 ∷ 0x66 ∷ 0x75 ∷ 0x73 ∷ 0x65 ∷ 0x64 ∷ 0x20 ∷ 0x36 ∷ 0x0A ∷ []
+    ≡ ascii "refused 6\n"
 unfolding text translated checked blockLegal contentLegal wordSum firstNot every stepCount stepOf shaped names legal fits nextOf stepsTo commandsOf expanded ways linesOf decimalIn
 case-13-damaged = refl
 
--- the same with XR70 for XR60, as a volunteer typed (document 02, P2), and its check right: `refused 11`
+-- the same with XR70 for XR60, as a volunteer typed (document 02, P2), and its check right
 pub case-XR70 : text ((0 ∷ 0 ∷ 1 ∷ 1 ∷ 0 ∷ 0 ∷ 1 ∷ 3 ∷ 0x70 ∷ 0x43 ∷ 0 ∷ 0 ∷ []) ++ replicate 498 0 ++ (0x8F ∷ 0xB8 ∷ [])) 32256
-    ≡ 0x72 ∷ 0x65 ∷ 0x66 ∷ 0x75 ∷ 0x73 ∷ 0x65 ∷ 0x64 ∷ 0x20 ∷ 0x31 ∷ 0x31 ∷ 0x0A ∷ []
+    ≡ ascii "refused 11\n"
 unfolding text translated checked stepsChecked blockLegal contentLegal wordSum firstNot every stepCount stepOf shaped judged names legal fits idle groupAt rowOf XR nextOf stepsTo commandsOf expanded ways linesOf decimalIn
 case-XR70 = refl

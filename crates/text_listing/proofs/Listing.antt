@@ -9,12 +9,14 @@ use lib.Dec.{ltb}
 use lib.ListN.{length, length-append}
 use borrow.Author.Tests.{lt-ltb, le-ltb, ltb-false}
 use Rattle.lists.specs.Put.{put}
+use Rattle.lists.specs.Numbers.{returned}
 use Rattle.lists.proofs.Tests.{of-cond}
 use Rattle.script.specs.File.{stepCount, checked}
+use Rattle.script.specs.Numbers.{checksTable}
 use Rattle.script.specs.declared.Checked.{Checked}
 use Rattle.script.specs.declared.Checked.the-variants.{Accepted, Refused as NotAccepted}
 use Rattle.script.specs.declared.Refusal.the-variants.{Room}
-use Rattle.script.proofs.Checking.{Legal, answer-says}
+use Rattle.script.proofs.Checking.{Legal, answer-says, accepted-table, refused-table}
 use Rattle.script.proofs.Counting.{accepted-few}
 use Rattle.script_commands.specs.Command.{bytesOfAll}
 use Rattle.script_commands.specs.Translation.{commandsTo, begins, ifRoom, translated, leftBy as translatedBy}
@@ -23,23 +25,20 @@ use Rattle.script_commands.specs.declared.Translated.the-variants.{Commands, Re
 use Rattle.script_commands.proofs.Expanding.{begins-most}
 use Rattle.text.specs.Digits.{decimal}
 use Rattle.text_listing.specs.Line.{linesOf}
-use Rattle.text_listing.specs.Text.{header, refusal, textBy, text, wanted, listed, leftBy, ofListed, listedTable}
+use Rattle.text_listing.specs.Text.{header, textBy, text, wanted, answered, listed, leftBy, ofListed, listedTable}
 use Rattle.text.specs.Adding.{Added}
 use Rattle.text_listing.specs.Adding.{linesTo}
 use Rattle.text_listing.specs.declared.Listed.{Listed}
-use Rattle.text_listing.specs.declared.Listed.the-variants.{Text, Short}
+use Rattle.text_listing.specs.declared.Listed.the-variants.{Short}
 use Rattle.text.proofs.DigitLaws.{decimal-most}
 use Rattle.text_listing.proofs.Adding.{lines-read}
 
--- ---- the longest header, and the longest line of a refusal
+-- ---- the longest header
 pub header-most : (n k : ℕ) → length (header n k) ≤ 57
 header-most n k =
     let a : length (decimal n) ≤ 20 = decimal-most 20 n in
     let b : length (decimal k) ≤ 20 = decimal-most 20 k in
     simp length-append (omega arith)
-
-pub refusal-most : (n : ℕ) → length (refusal n) ≤ 57
-refusal-most n = let a : length (decimal n) ≤ 20 = decimal-most 20 n in simp length-append (omega arith)
 
 -- ---- a translation's number of commands
 pub record Few (f : List ℕ) (work k : ℕ) : Type 0 where
@@ -75,23 +74,43 @@ lines-left f work bytes k e is =
     ∙ lines-read (commandsTo f (stepCount f)) _
 
 -- ---- the answers
+left-answered : (t : Translated) (n : ℕ) (f : List ℕ) (work : ℕ) (out : List ℕ) → leftBy (answered t n) f work out ≡ put out 0 (text f work)
+left-answered (Commands k) n f work out = refl
+left-answered (Refused r) n f work out = refl
+
 module _ (f : List ℕ) (work : ℕ) (out : List ℕ) (t : Translated) (is : translated f work ≡ t) where
   pub listed-short : length out < wanted t → Short ≡ listed f work (length out)
   unfolding listed
   listed-short h = rw (is, lt-ltb _ _ h)
 
   pub listed-text : wanted t ≤ length out → {x out′ : List ℕ} {n : ℕ} → x ≡ textBy t f → Added out 0 x out′ n
-      → (Text n ≡ listed f work (length out)) × (out′ ≡ leftBy (Text n) f work out)
+      → (answered t n ≡ listed f work (length out)) × (out′ ≡ leftBy (answered t n) f work out)
   unfolding listed text
   listed-text h {x} {out′} {n} e a =
       let k : length x ≡ length (textBy t f) = ap length e in
       let l : n ≡ length (textBy t f) = omega (arith, a .next) in
-      (rw (is, le-ltb _ _ h, l), a .now ∙ ap (put out 0) (e ∙ ap (λ (u : Translated). textBy u f) (sym is)))
+      let left : out′ ≡ put out 0 (textBy (translated f work) f) = a .now ∙ ap (put out 0) (e ∙ ap (λ (u : Translated). textBy u f) (sym is)) in
+      (rw (is, le-ltb _ _ h, l), left ∙ sym (left-answered t n f work out))
 
--- ---- the answer's number: 9 exactly where the room is too little, and else 0 with the text's length
+-- ---- the answer's number: 9 where the room is too little, and else the file's, or 0 with the text's length
+answered-number : (f : List ℕ) (work n : ℕ)
+    → ofListed (answered (translated f work) n) ≡ checksTable f (cond (ltb work (32 * stepCount f)) (returned 9 0) (returned 0 n))
+unfolding translated
+answered-number f work n = go (checked f) refl
+  where
+    go : (r : Checked) → checked f ≡ r
+        → ofListed (answered (ifRoom r f work) n) ≡ checksTable f (cond (ltb work (32 * stepCount f)) (returned 9 0) (returned 0 n))
+    go (Accepted m) acc =
+        let count : stepCount f ≡ m = answer-says f acc .count in
+        of-cond (λ (t : Translated). ofListed (answered t n)) (ltb work (32 * m)) (Refused Room) (Commands (begins f m))
+        ∙ ap (λ (k : ℕ). cond (ltb work (32 * k)) (returned 9 0) (returned 0 n)) (sym count) ∙ sym (accepted-table f m acc _)
+    go (NotAccepted why) acc = sym (refused-table f why acc _)
+
 pub listed-number : (f : List ℕ) (work room : ℕ) → ofListed (listed f work room) ≡ listedTable f work room
 unfolding listed
-listed-number f work room = of-cond ofListed (ltb room (wanted (translated f work))) Short (Text (length (text f work)))
+listed-number f work room =
+    of-cond ofListed (ltb room (wanted (translated f work))) Short (answered (translated f work) (length (text f work)))
+    ∙ ap (cond (ltb room (wanted (translated f work))) (returned 9 0)) (answered-number f work (length (text f work)))
 
 -- what the contract of `list` says, from the answer and what is left
 pub listed-answered : {A B : Type 0} (f : List ℕ) (work room : ℕ) {r : Listed} → r ≡ listed f work room → A → B

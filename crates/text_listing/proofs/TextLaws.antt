@@ -25,11 +25,14 @@ use Rattle.script_commands.specs.declared.Ways.{Ways}
 use Rattle.script_commands.specs.declared.Ways.the-variants.{Pair, Pairs, Direct, Turns, Nowhere}
 use Rattle.script_commands.specs.declared.Translated.{Translated}
 use Rattle.script_commands.specs.declared.Translated.the-variants.{Commands, Refused}
+use Rattle.text.specs.Refused.{refused}
+use Rattle.text.proofs.Adding.{refused-most}
 use Rattle.text_listing.specs.Line.{line, linesOf}
-use Rattle.text_listing.specs.Text.{header, refusal, textBy, text, wanted, listed}
-use Rattle.text_listing.specs.declared.Listed.the-variants.{Text, Short}
+use Rattle.text_listing.specs.Text.{header, textBy, text, wanted, answered, listed}
+use Rattle.text_listing.specs.declared.Listed.{Listed}
+use Rattle.text_listing.specs.declared.Listed.the-variants.{Text, Refused as NotListed, Short}
 use Rattle.text_listing.proofs.Adding.{line-most}
-use Rattle.text_listing.proofs.Listing.{header-most, refusal-most, translated-few}
+use Rattle.text_listing.proofs.Listing.{header-most, translated-few}
 
 -- ---- the text fits
 pub length-lines : (cs : List Command) → length (linesOf cs) ≤ 12 * length cs
@@ -45,25 +48,36 @@ unfolding text
 text-most f work = go (translated f work) refl
   where
     go : (t : Translated) → translated f work ≡ t → length (textBy t f) ≤ wanted t
-    go (Refused r) e = refusal-most (ofRefusal r .number)
+    go (Refused r) e = omega (arith, refused-most (ofRefusal r .number))
     go (Commands k) e =
         let w : k ≡ begins f (stepCount f) = translated-few f work k e .count in
         let h : length (header (stepCount f) k) ≤ 57 = header-most (stepCount f) k in
         let l : length (linesOf (commandsTo f (stepCount f))) ≤ 12 * begins f (stepCount f) = length-lines (commandsTo f (stepCount f)) in
         rw (length-append (header (stepCount f) k) (linesOf (commandsTo f (stepCount f)))) (omega arith)
 
--- an answer of so many bytes is the text's length, and lies within the output
-pub listed-within : (f : List ℕ) (work room n : ℕ) → Text n ≡ listed f work room → (n ≡ length (text f work)) × (n ≤ room)
+-- how many bytes of text an answer counts
+abbrev pub counted : Listed → ℕ
+counted (Text n) = n
+counted (NotListed r n) = n
+counted Short = 0
+
+answered-counted : (t : Translated) (n : ℕ) → counted (answered t n) ≡ n
+answered-counted (Commands k) n = refl
+answered-counted (Refused r) n = refl
+
+-- what is counted lies within the output
+pub listed-within : (f : List ℕ) (work room : ℕ) → counted (listed f work room) ≤ room
 unfolding listed
-listed-within f work room n e = go (ltb room (wanted (translated f work))) refl e
+listed-within f work room = go (ltb room (wanted (translated f work))) refl
   where
-    go : (b : Bool) → ltb room (wanted (translated f work)) ≡ b → Text n ≡ cond b Short (Text (length (text f work)))
-        → (n ≡ length (text f work)) × (n ≤ room)
-    go true eb e = absurd (let z : _≡_ {A = ℕ} 0 1 = cc in omega arith)
-    go false eb e =
-        let s : n ≡ length (text f work) = cc in
-        let r : wanted (translated f work) ≤ room = ltb-false _ _ eb in
-        (s, omega (arith, text-most f work))
+    whole : Listed
+    whole = answered (translated f work) (length (text f work))
+
+    go : (b : Bool) → ltb room (wanted (translated f work)) ≡ b → counted (cond b Short whole) ≤ room
+    go true eb = omega arith
+    go false eb =
+        let enough : wanted (translated f work) ≤ room = ltb-false _ _ eb in
+        omega (arith, answered-counted (translated f work) (length (text f work)), text-most f work)
 
 -- no file wants more than 96,825 bytes
 pub wanted-most : (f : List ℕ) (work : ℕ) → wanted (translated f work) ≤ 96825
@@ -73,7 +87,8 @@ wanted-most f work = go (translated f work) refl
     go (Refused r) e = omega arith
     go (Commands k) e = omega (arith, translated-few f work k e .few)
 
-pub listed-whole : (f : List ℕ) (work room : ℕ) → 96825 ≤ room → listed f work room ≡ Text (length (text f work))
+-- .. so that there the text's length is counted
+pub listed-whole : (f : List ℕ) (work room : ℕ) → 96825 ≤ room → listed f work room ≡ answered (translated f work) (length (text f work))
 unfolding listed
 listed-whole f work room h =
     let w : wanted (translated f work) ≤ room = omega (arith, wanted-most f work) in
@@ -82,7 +97,7 @@ listed-whole f work room h =
 -- ---- the text of the file alone
 abbrev pub checkedText : Checked → List ℕ → List ℕ
 checkedText (Accepted m) f = header m (begins f m) ++ linesOf (commandsTo f m)
-checkedText (NotAccepted r) f = refusal (ofRefusal r .number)
+checkedText (NotAccepted r) f = refused (ofRefusal r .number)
 
 pub text-alone : (f : List ℕ) (work : ℕ) → 32256 ≤ work → text f work ≡ checkedText (checked f) f
 unfolding text translated
@@ -96,13 +111,13 @@ text-alone f work h = go (checked f) refl
         rw (le-ltb _ _ few, l .count)
 
 -- ---- a file that is too long
-text-long : (f : List ℕ) (work : ℕ) → wholeBlocks f ≡ false → text f work ≡ refusal 8
+text-long : (f : List ℕ) (work : ℕ) → wholeBlocks f ≡ false → text f work ≡ refused 8
 unfolding text translated
 text-long f work w = rw (check-length f w)
 
 -- reading may stop at 6,145 bytes
 pub text-start : (f : List ℕ) (work : ℕ) → text (take 6145 f) work ≡ text f work
-text-start f work = start-decides (λ l. text l work) (refusal 8) (λ l h. text-long l work (long-refused l h)) f
+text-start f work = start-decides (λ l. text l work) (refused 8) (λ l h. text-long l work (long-refused l h)) f
 
 -- ---- the ports of a script's commands are below 1000h
 abbrev pub lowPort : Command → Bool

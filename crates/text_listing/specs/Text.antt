@@ -3,35 +3,30 @@
 -- 12 for each command. With less nothing is put there. Laws of the text are proofs/TextLaws.
 use Prim.Native.Nat.{ℕ, _+_, _*_}
 use mathlib.Core.Bool.{cond}
-use mathlib.Core.List.{List, _∷_, _++_}
+use mathlib.Core.List.{List, _++_}
 use lib.Dec.{ltb}
 use lib.ListN.{length}
 use Rattle.lists.specs.Put.{put}
 use Rattle.script.specs.File.{stepCount}
 use Rattle.lists.specs.Numbers.{Returned, returned}
-use Rattle.script.specs.Numbers.{ofRefusal}
+use Rattle.script.specs.Numbers.{ofRefusal, checksTable}
 use Rattle.script_commands.specs.Translation.{commandsTo, translated}
 use Rattle.script_commands.specs.declared.Translated.{Translated}
-use Rattle.script_commands.specs.declared.Translated.the-variants.{Commands, Refused}
+use Rattle.script_commands.specs.declared.Translated.the-variants.{Commands, Refused as NotTranslated}
+use Rattle.text.specs.Ascii.{ascii}
 use Rattle.text.specs.Digits.{decimal}
 use Rattle.text.specs.Refused.{refused}
-use Rattle.text_listing.specs.Line.{space, lineFeed, linesOf}
+use Rattle.text_listing.specs.Line.{linesOf}
 use Rattle.text_listing.specs.declared.Listed.{Listed}
-use Rattle.text_listing.specs.declared.Listed.the-variants.{Text, Short}
+use Rattle.text_listing.specs.declared.Listed.the-variants.{Text, Refused, Short}
 
--- `steps `, ` commands `
 abbrev pub header : ℕ → ℕ → List ℕ
-header steps commands =
-    (0x73 ∷ 0x74 ∷ 0x65 ∷ 0x70 ∷ 0x73 ∷ space) ++ decimal steps
-    ++ (0x20 ∷ 0x63 ∷ 0x6F ∷ 0x6D ∷ 0x6D ∷ 0x61 ∷ 0x6E ∷ 0x64 ∷ 0x73 ∷ space) ++ decimal commands ++ lineFeed
-
-abbrev pub refusal : ℕ → List ℕ
-refusal number = refused number
+header steps commands = ascii "steps " ++ decimal steps ++ ascii " commands " ++ decimal commands ++ ascii "\n"
 
 -- the text for what the translation of a file answers
 abbrev pub textBy : Translated → List ℕ → List ℕ
 textBy (Commands k) f = header (stepCount f) k ++ linesOf (commandsTo f (stepCount f))
-textBy (Refused r) f = refusal (ofRefusal r .number)
+textBy (NotTranslated r) f = refused (ofRefusal r .number)
 
 -- the text of a file whose commands have so much room
 unfoldable pub text : List ℕ → ℕ → List ℕ
@@ -40,22 +35,33 @@ text f work = textBy (translated f work) f
 -- the room that the text wants, whatever the numbers in it
 abbrev pub wanted : Translated → ℕ
 wanted (Commands k) = 57 + 12 * k
-wanted (Refused r) = 57
+wanted (NotTranslated r) = 57
+
+-- the answer for a text of so many bytes: for a file that is refused, why is handed out with it
+abbrev pub answered : Translated → ℕ → Listed
+answered (Commands k) n = Text n
+answered (NotTranslated r) n = Refused r n
 
 -- the answer: how many bytes the text has, or that there is too little room
 unfoldable pub listed : List ℕ → ℕ → ℕ → Listed
-listed f work room = cond (ltb room (wanted (translated f work))) Short (Text (length (text f work)))
+listed f work room = cond (ltb room (wanted (translated f work))) Short (answered (translated f work) (length (text f work)))
 
--- what the lent output then holds: a refusal changes no byte, and bytes after the text keep their value
+-- what the lent output then holds: too little room changes no byte, and bytes after the text keep their value
 abbrev pub leftBy : Listed → List ℕ → ℕ → List ℕ → List ℕ
 leftBy (Text n) f work out = put out 0 (text f work)
+leftBy (Refused r n) f work out = put out 0 (text f work)
 leftBy Short f work out = out
 
--- a number and a value for each answer: document 01 gives none for a text, and too little room is 9 as it is for commands
+-- a number and a value for each answer: a text's length with 0, a refused file's own, and too little room is 9 as it is for
+-- commands
 abbrev pub ofListed : Listed → Returned
 ofListed (Text n) = returned 0 n
+ofListed (Refused r n) = ofRefusal r
 ofListed Short = returned 9 0
 
--- the table of numbers for a listing: 9 where the output has too little room for the text; else its length
+-- the table of numbers for a listing: 9 where the output has too little room for the text; then the file's, 8, 6, 7 or 11, and
+-- 9 where its commands have too little; else the text's length
 abbrev pub listedTable : List ℕ → ℕ → ℕ → Returned
-listedTable f work room = cond (ltb room (wanted (translated f work))) (returned 9 0) (returned 0 (length (text f work)))
+listedTable f work room =
+    cond (ltb room (wanted (translated f work))) (returned 9 0)
+    (checksTable f (cond (ltb work (32 * stepCount f)) (returned 9 0) (returned 0 (length (text f work)))))

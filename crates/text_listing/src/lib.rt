@@ -8,9 +8,11 @@ ghost use lib.ListN.{length};
 ghost use Rattle.script_commands.specs.Translation.{translated, leftBy as translatedBy};
 ghost use Rattle.text.specs.Digits.{decimal};
 ghost use Rattle.text_listing.specs.Line.{line};
-ghost use Rattle.text_listing.specs.Text.{header, refusal, listed, leftBy, ofListed, listedTable};
+ghost use Rattle.text.specs.Refused.{refused};
+ghost use Rattle.text_listing.specs.Text.{header, listed, leftBy, ofListed, listedTable};
 ghost use Rattle.text.specs.Adding.{Added};
 ghost use Rattle.text_listing.specs.Adding.{lineRead, linesTo};
+use script::Refusal;
 use script::step_count;
 use script_commands::Command;
 use script_commands::CommandRead;
@@ -19,9 +21,11 @@ use script_commands::command_of;
 use script_commands::translate;
 use text::digit;
 
-// What the listing answers: how many bytes of text there are, or that the output is too short.
+// What the listing answers: how many bytes of text there are, for a file that is refused with the refusal; or that the
+// output is too short.
 pub enum Listed {
     Text(usize),
+    Refused(Refusal, usize),
     Short,
 }
 
@@ -154,7 +158,7 @@ fn add_header(out: &mut [u8], steps: usize, commands: usize) -> usize
 // The line of a refusal.
 fn add_refusal(out: &mut [u8], number: usize) -> usize
     requires { ⌜ 57 ≤ length (now out) ⌝ }
-    ensures { λ r. ⌜ Added (now (out .entry)) 0 (refusal number) (now (out .exit)) r ⌝ }
+    ensures { λ r. ⌜ Added (now (out .entry)) 0 (refused number) (now (out .exit)) r ⌝ }
 {
     text::add_refused(out, 0, number)
 }
@@ -180,7 +184,7 @@ pub fn list(file: &[u8], work: &mut [u8], out: &mut [u8]) -> Listed
             if out.len() < 57 {
                 return Listed::Short;
             }
-            Listed::Text(add_refusal(out, r.number() as usize))
+            Listed::Refused(r, add_refusal(out, r.number() as usize))
         }
         Translated::Commands(k) => {
             if out.len() < 57 + 12 * k {

@@ -1,4 +1,4 @@
--- A legal step that is written as a line reads back as itself. Word by word: a word's characters are none of them blank and all of
+-- A legal step that is written as a line reads back as itself. It has no comment in it. Word by word: a word's characters are none of them blank and all of
 -- them capitals already, so a word grows by each of them; a byte's two digits read back as the byte, and a name as its group and index.
 use Prim.Native.Nat.{ℕ, _+_, _*_, _/_, _%_, _≤_, _<_}
 use native.Mathlib.Omega.{arith}
@@ -13,10 +13,10 @@ use Rattle.lists.specs.Tab.{Bytes}
 use Rattle.lists.proofs.Scan.{every-at}
 use Rattle.lists.proofs.Tests.{and-both}
 use Rattle.text.specs.Digits.{lastDigit, byteDigits}
-use Rattle.text_tokens.specs.declared.Words.{Words}
-use Rattle.text_tokens.specs.Words.{none, grown, ended, taken, takenAll, wordsOf}
+use Rattle.text_tokens.specs.declared.Tokens.{Tokens}
+use Rattle.text_tokens.specs.Tokens.{none, grown, ended, taken, takenAll, tokensOf, packed}
 use Rattle.text_tokens.specs.Hex.{digitValue, isByte, byteOf}
-use Rattle.text_tokens.proofs.WordLaws.{Character, plain-character, packed, reading, word-taken}
+use Rattle.text_tokens.proofs.TokenLaws.{Character, plain-character, reading, token-taken}
 use Rattle.script_steps.specs.Step.{names, legal, bytesOf}
 use Rattle.script_steps.proofs.Lawful.{names-single, named-group}
 use Rattle.script_steps.specs.declared.Step.{Step}
@@ -25,14 +25,8 @@ use Rattle.text_steps.specs.Written.{letter, nameText, byteText, stepTex
 use Rattle.text_steps.specs.Reading.{groupOf, indexed, nameOf, setOf, fieldOf, colourOf, stepOf, said, lineOf}
 use Rattle.text_steps.specs.declared.Name.the-variants.{Of}
 use Rattle.text_steps.specs.declared.Line.the-variants.{Is}
-
--- ---- characters
-pub digit-range : (x : ℕ) → (0x30 ≤ lastDigit x) × (lastDigit x < 0x47)
-digit-range x = go (x % 16) (omega arith) (ltb (x % 16) 10) refl
-  where
-    go : (d : ℕ) → d < 16 → (b : Bool) → ltb d 10 ≡ b → (0x30 ≤ cond b (0x30 + d) (0x37 + d)) × (cond b (0x30 + d) (0x37 + d) < 0x47)
-    go d h true e = let k : d < 10 = ltb-true _ _ e in (omega arith, omega arith)
-    go d h false e = (omega arith, omega arith)
+use Rattle.text_steps.proofs.Plain.{digit-range, step-plain}
+use Rattle.text_steps.proofs.CommentLaws.{no-comment}
 
 -- ---- a byte
 abbrev pair : ℕ → ℕ
@@ -60,7 +54,7 @@ digit-character x = let h = digit-range x in plain-character (lastDigit x) (omeg
 digits-taken : (n : ℕ) (a : List ℕ) (v : ℕ) (r : List ℕ) → takenAll (reading n 0 a) (byteDigits v ++ r) ≡ takenAll (reading n (pair v) a) r
 digits-taken n a v r =
     let sum : packed 0 (byteDigits v) ≡ pair v = omega arith in
-    word-taken n a (byteDigits v) 0 0 r (digit-character (v / 16), (digit-character v, tt)) (λ z. omega (arith, z)) (omega arith) (omega arith)
+    token-taken n a (byteDigits v) 0 0 r (digit-character (v / 16), (digit-character v, tt)) (λ z. omega (arith, z)) (omega arith) (omega arith)
     ∙ ap (λ (x : ℕ). takenAll (reading n x a) r) sum
 
 -- ---- the end of a word
@@ -71,7 +65,7 @@ module _ (n w : ℕ) (a : List ℕ) (some : w ≡ 0 → ⊥) (room : n < 13) whe
 
   space-taken : (r : List ℕ) → takenAll (reading n w a) (0x20 ∷ r) ≡ takenAll (reading (n + 1) 0 (set a n w)) r
   unfolding takenAll taken
-  space-taken r = ap (λ (s : Words). takenAll s r) word-ends
+  space-taken r = ap (λ (s : Tokens). takenAll s r) word-ends
 
 -- a byte behind the word that stands before it
 module _ (n w : ℕ) (a : List ℕ) (some : w ≡ 0 → ⊥) (room : n < 13) where
@@ -93,7 +87,7 @@ module _ (g : ℕ) (group : g < 9) where
   letters-read : lettersRead g ≡ true
   letters-read = every-at lettersRead 0 9 all-letters g (omega arith) (omega arith)
 
-  pub letter-range : (0x3F ≤ letter g) × (letter g < 0x5B)
+  letter-range : (0x3F ≤ letter g) × (letter g < 0x5B)
   letter-range =
       let t = and-both (leb 0x3F (letter g) && ltb (letter g) 0x5B) (eqb (groupOf (256 * letter g + 0x52)) g || eqb g 6 || eqb g 7) letters-read in
       let u = and-both (leb 0x3F (letter g)) (ltb (letter g) 0x5B) (t .0) in
@@ -120,7 +114,7 @@ module _ (n : ℕ) (a : List ℕ) (g i : ℕ) (group : g < 9) (r : List ℕ) whe
       indexed-taken =
           let l = letter-range g group in
           let sum : packed 0 (letter g ∷ 0x52 ∷ byteDigits i) ≡ 65536 * word + pair i = omega arith in
-          word-taken n a (letter g ∷ 0x52 ∷ byteDigits i) 0 0 r
+          token-taken n a (letter g ∷ 0x52 ∷ byteDigits i) 0 0 r
           (plain-character (letter g) (omega (arith, l .0)) (omega (arith, l .1)), (plain-character 0x52 (omega arith) (omega arith), (digit-character (i / 16), (digit-character i, tt))))
           (λ z. omega (arith, z))
           (omega arith)
@@ -179,15 +173,15 @@ module _ (g i : ℕ) (group : g < 9) where
       go false true z = omega (arith, z)
       go false false z = omega (arith, z)
 
-  words-set : (v : ℕ) → wordsOf (stepText (Set g i v)) ≡ reading 3 0 (0x534554 ∷ nameWord g i ∷ pair v ∷ replicate 10 0)
-  unfolding wordsOf stepText takenAll taken grown ended
+  words-set : (v : ℕ) → tokensOf (stepText (Set g i v)) ≡ reading 3 0 (0x534554 ∷ nameWord g i ∷ pair v ∷ replicate 10 0)
+  unfolding tokensOf stepText takenAll taken grown ended
   words-set v =
       let a : List ℕ = 0x534554 ∷ replicate 12 0 in
       ap ended (name-taken 1 a g i group (byteText v) ∙ byte-taken 1 (nameWord g i) a some-name (omega arith) v [])
       ∙ word-ends 2 (pair v) (set a 1 (nameWord g i)) (some-pair v) (omega arith)
 
-  words-field : (v m : ℕ) → wordsOf (stepText (Field g i v m)) ≡ reading 4 0 (0x4649454C44 ∷ nameWord g i ∷ pair m ∷ pair v ∷ replicate 9 0)
-  unfolding wordsOf stepText takenAll taken grown ended
+  words-field : (v m : ℕ) → tokensOf (stepText (Field g i v m)) ≡ reading 4 0 (0x4649454C44 ∷ nameWord g i ∷ pair m ∷ pair v ∷ replicate 9 0)
+  unfolding tokensOf stepText takenAll taken grown ended
   words-field v m =
       let a : List ℕ = 0x4649454C44 ∷ replicate 12 0 in
       let b : List ℕ = set a 1 (nameWord g i) in
@@ -198,8 +192,8 @@ module _ (g i : ℕ) (group : g < 9) where
       ∙ byte-taken 2 (pair m) b (some-pair m) (omega arith) v [])
       ∙ word-ends 3 (pair v) (set b 2 (pair m)) (some-pair v) (omega arith)
 
-words-colour : (e r g b : ℕ) → wordsOf (stepText (Colour e r g b)) ≡ reading 5 0 (0x434F4C4F5552 ∷ pair e ∷ pair r ∷ pair g ∷ pair b ∷ replicate 8 0)
-unfolding wordsOf stepText takenAll taken grown ended
+words-colour : (e r g b : ℕ) → tokensOf (stepText (Colour e r g b)) ≡ reading 5 0 (0x434F4C4F5552 ∷ pair e ∷ pair r ∷ pair g ∷ pair b ∷ replicate 8 0)
+unfolding tokensOf stepText takenAll taken grown ended
 words-colour e r g b =
     let a : List ℕ = replicate 13 0 in
     let c : List ℕ = set a 0 0x434F4C4F5552 in
@@ -212,20 +206,25 @@ words-colour e r g b =
     ∙ byte-taken 3 (pair g) f (some-pair g) (omega arith) b [])
     ∙ word-ends 4 (pair b) (set f 3 (pair g)) (some-pair b) (omega arith)
 
--- a legal step of bytes, written, reads back
-pub reads-back : (s : Step) → legal s ≡ true → Bytes (bytesOf s) → lineOf (stepText s) ≡ Is s
-unfolding lineOf stepText said stepOf setOf fieldOf colourOf legal bytesOf
-reads-back (Set g i v) ok bytes =
+-- a legal step's words say the step
+words-say : (s : Step) → legal s ≡ true → Bytes (bytesOf s) → said (tokensOf (stepText s)) ≡ Is s
+unfolding stepText said stepOf setOf fieldOf colourOf legal bytesOf
+words-say (Set g i v) ok bytes =
     let p = pair-reads v (bytes 3) in
     ap said (words-set g i (named-group g i ok) v) ∙ rw (name-reads g i ok (bytes 2), p .0, p .1)
-reads-back (Field g i v m) ok bytes =
+words-say (Field g i v m) ok bytes =
     let t = and-both _ _ ok in
     let p = pair-reads v (bytes 3) in
     let q = pair-reads m (bytes 4) in
     ap said (words-field g i (named-group g i (t .0)) v m) ∙ rw (name-reads g i (t .0) (bytes 2), p .0, p .1, q .0, q .1)
-reads-back (Colour e r g b) ok bytes =
+words-say (Colour e r g b) ok bytes =
     let p = pair-reads e (bytes 1) in
     let q = pair-reads r (bytes 2) in
     let x = pair-reads g (bytes 3) in
     let y = pair-reads b (bytes 4) in
     ap said (words-colour e r g b) ∙ rw (p .0, p .1, q .0, q .1, x .0, x .1, y .0, y .1)
+
+-- a legal step of bytes, written, reads back
+pub reads-back : (s : Step) → legal s ≡ true → Bytes (bytesOf s) → lineOf (stepText s) ≡ Is s
+unfolding lineOf
+reads-back s ok bytes = ap (λ (l : List ℕ). said (tokensOf l)) (no-comment true (stepText s) (step-plain s ok)) ∙ words-say s ok bytes

@@ -1,13 +1,13 @@
 -- A line of text read: a step, a line to pass over, or one of another form. Words are those of the crate text_tokens, so blanks and the
--- case of letters are free; a byte has exactly two digits, and so has an index: what is left out is not guessed. Blank lines and
--- lines that begin with `#` are passed over. Whether a step is legal is not asked here. The words are given as numbers in base 256.
+-- case of letters are free; a byte has exactly two digits, and so has an index: what is left out is not guessed. A `#` at the
+-- line's start or behind a blank begins a comment, which is not read; a line without words is passed over. Whether a step is legal
+-- is not asked here. Laws of comments are proofs/CommentLaws.
 use Prim.Native.Nat.{ℕ, _/_, _%_}
-use mathlib.Core.Bool.{cond, _&&_}
-use mathlib.Core.List.{List}
+use mathlib.Core.Bool.{Bool, true, cond, _&&_}
+use mathlib.Core.List.{List, [], _∷_}
 use lib.Dec.{ltb, eqb}
-use lib.ListN.{getD}
-use Rattle.text_tokens.specs.declared.Words.{Words}
-use Rattle.text_tokens.specs.Words.{word, wordsOf}
+use Rattle.text_tokens.specs.declared.Tokens.{Tokens}
+use Rattle.text_tokens.specs.Tokens.{blank, token, tokenAt, tokensOf}
 use Rattle.text_tokens.specs.Hex.{isByte, byteOf}
 use Rattle.script_steps.specs.declared.Step.the-variants.{Set, Field, Colour}
 use Rattle.text_steps.specs.declared.Name.{Name}
@@ -15,26 +15,26 @@ use Rattle.text_steps.specs.declared.Name.the-variants.{Of, None}
 use Rattle.text_steps.specs.declared.Line.{Line}
 use Rattle.text_steps.specs.declared.Line.the-variants.{Pass, Is, Other}
 
--- `CR` is 4352h, and so on; 9 for letters of no group
+-- 9 for letters of no group
 unfoldable pub groupOf : ℕ → ℕ
 groupOf letters =
-    cond (eqb letters 0x4352) 0
-    (cond (eqb letters 0x5352) 1
-    (cond (eqb letters 0x4752) 2
-    (cond (eqb letters 0x5852) 3
-    (cond (eqb letters 0x4652) 4
-    (cond (eqb letters 0x4D52) 5
-    (cond (eqb letters 0x4152) 8 9))))))
+    cond (eqb letters (token "CR")) 0
+    (cond (eqb letters (token "SR")) 1
+    (cond (eqb letters (token "GR")) 2
+    (cond (eqb letters (token "XR")) 3
+    (cond (eqb letters (token "FR")) 4
+    (cond (eqb letters (token "MR")) 5
+    (cond (eqb letters (token "AR")) 8 9))))))
 
 -- two letters and two digits
 unfoldable pub indexed : ℕ → ℕ → Name
 indexed letters digits = cond (isByte digits && ltb (groupOf letters) 9) (Of (groupOf letters) (byteOf digits)) None
 
--- `MSR`, `PALMASK`, and the others
+-- the two that have no index, and the others
 unfoldable pub nameOf : ℕ → Name
 nameOf word =
-    cond (eqb word 0x4D5352) (Of 6 0)
-    (cond (eqb word 0x50414C4D41534B) (Of 7 0)
+    cond (eqb word (token "MSR")) (Of 6 0)
+    (cond (eqb word (token "PALMASK")) (Of 7 0)
     (indexed (word / 65536) (word % 65536)))
 
 -- a name and one byte; a name, the mask and the value; four bytes
@@ -51,18 +51,22 @@ colourOf entry red green blue =
     cond (isByte entry && isByte red && isByte green && isByte blue)
     (Is (Colour (byteOf entry) (byteOf red) (byteOf green) (byteOf blue))) Other
 
--- `SET`, `FIELD`, `COLOUR`, each with just its words
-unfoldable pub stepOf : Words → Line
+-- each with just its words
+unfoldable pub stepOf : Tokens → Line
 stepOf w =
-    cond (eqb (word w 0) 0x534554 && eqb (word w 3) 0) (setOf (nameOf (word w 1)) (word w 2))
-    (cond (eqb (word w 0) 0x4649454C44 && eqb (word w 4) 0) (fieldOf (nameOf (word w 1)) (word w 2) (word w 3))
-    (cond (eqb (word w 0) 0x434F4C4F5552 && eqb (word w 5) 0) (colourOf (word w 1) (word w 2) (word w 3) (word w 4))
+    cond (eqb (tokenAt w 0) (token "SET") && eqb (tokenAt w 3) 0) (setOf (nameOf (tokenAt w 1)) (tokenAt w 2))
+    (cond (eqb (tokenAt w 0) (token "FIELD") && eqb (tokenAt w 4) 0) (fieldOf (nameOf (tokenAt w 1)) (tokenAt w 2) (tokenAt w 3))
+    (cond (eqb (tokenAt w 0) (token "COLOUR") && eqb (tokenAt w 5) 0) (colourOf (tokenAt w 1) (tokenAt w 2) (tokenAt w 3) (tokenAt w 4))
     Other))
 
 -- no word at all is a blank line
-unfoldable pub said : Words → Line
-said w = cond (eqb (word w 0) 0) Pass (stepOf w)
+unfoldable pub said : Tokens → Line
+said w = cond (eqb (tokenAt w 0) 0) Pass (stepOf w)
 
--- `#` is 23h
+-- what stands before a comment, from a place on: whether a word can begin there, and what follows. `#` is 23h
+unfoldable pub beforeComment : Bool → List ℕ → List ℕ
+beforeComment free [] = []
+beforeComment free (c ∷ cs) = cond (free && eqb c 0x23) [] (c ∷ beforeComment (blank c) cs)
+
 unfoldable pub lineOf : List ℕ → Line
-lineOf l = cond (eqb (getD l 0 0) 0x23) Pass (said (wordsOf l))
+lineOf l = said (tokensOf (beforeComment true l))

@@ -1,10 +1,11 @@
 -- A step as a line of text, in ASCII: `SET XR60 43`, `FIELD XR80 80 80` (mask, then value), `COLOUR FF 3F 00 15`, `SET MSR 67`,
--- `SET PALMASK FF`. Words and digits are capitals, one space stands between words, and a byte has two digits. Words are spelled in
--- ASCII; what they say stands beside them. That a line reads back as its step is proofs/ReadBack.
+-- `SET PALMASK FF`. Words and digits are capitals, one space stands between words, and a byte has two digits. That a line reads
+-- back as its step is proofs/ReadBack.
 use Prim.Native.Nat.{ℕ}
 use mathlib.Core.Bool.{cond}
-use mathlib.Core.List.{List, [], _∷_, _++_}
+use mathlib.Core.List.{List, _∷_, _++_}
 use lib.Dec.{eqb}
+use Rattle.text.specs.Ascii.{ascii}
 use Rattle.text.specs.Digits.{byteDigits}
 use Rattle.script_steps.specs.declared.Step.{Step}
 use Rattle.script_steps.specs.declared.Step.the-variants.{Set, Field, Colour}
@@ -20,24 +21,22 @@ letter group =
     (cond (eqb group 5) 0x4D
     (cond (eqb group 8) 0x41 0x3F))))))
 
--- `MSR`, `PALMASK`; `XR60`
 unfoldable pub nameText : ℕ → ℕ → List ℕ
 nameText group index =
-    cond (eqb group 6) (0x4D ∷ 0x53 ∷ 0x52 ∷ [])
-    (cond (eqb group 7) (0x50 ∷ 0x41 ∷ 0x4C ∷ 0x4D ∷ 0x41 ∷ 0x53 ∷ 0x4B ∷ [])
-    (letter group ∷ 0x52 ∷ byteDigits index))
+    cond (eqb group 6) (ascii "MSR")
+    (cond (eqb group 7) (ascii "PALMASK")
+    (letter group ∷ ascii "R" ++ byteDigits index))
 
 -- a byte behind a space
 abbrev pub byteText : ℕ → List ℕ
-byteText value = 0x20 ∷ byteDigits value
+byteText value = ascii " " ++ byteDigits value
 
--- `SET `, `FIELD `, `COLOUR`
 unfoldable pub stepText : Step → List ℕ
-stepText (Set group index value) = (0x53 ∷ 0x45 ∷ 0x54 ∷ 0x20 ∷ []) ++ nameText group index ++ byteText value
+stepText (Set group index value) = ascii "SET " ++ nameText group index ++ byteText value
 stepText (Field group index value mask) =
-    (0x46 ∷ 0x49 ∷ 0x45 ∷ 0x4C ∷ 0x44 ∷ 0x20 ∷ []) ++ nameText group index ++ byteText mask ++ byteText value
+    ascii "FIELD " ++ nameText group index ++ byteText mask ++ byteText value
 stepText (Colour entry red green blue) =
-    (0x43 ∷ 0x4F ∷ 0x4C ∷ 0x4F ∷ 0x55 ∷ 0x52 ∷ []) ++ byteText entry ++ byteText red ++ byteText green ++ byteText blue
+    ascii "COLOUR" ++ byteText entry ++ byteText red ++ byteText green ++ byteText blue
 
 abbrev pub stepLine : Step → List ℕ
-stepLine s = stepText s ++ (0x0A ∷ [])
+stepLine s = stepText s ++ ascii "\n"

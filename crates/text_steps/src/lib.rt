@@ -2,18 +2,18 @@
 // definitions are specs/Written and specs/Reading; that a written step reads back as itself is proofs/ReadBack.
 ghost use mathlib.Core.Path.{_≡_};
 ghost use Prim.Native.Nat.{_+_, _≤_};
-ghost use lib.ListN.{length};
+ghost use mathlib.Core.Bool.{true};
+ghost use lib.ListN.{length, take};
 ghost use Rattle.text.specs.Adding.{withAddedIn, behindIn, Added};
 ghost use Rattle.text_steps.specs.Written.{letter, nameText, byteText, stepText, stepLine};
-ghost use Rattle.text_steps.specs.Reading.{groupOf, indexed, nameOf, setOf, fieldOf, colourOf, stepOf, said, lineOf};
-use lists::byte_at;
+ghost use Rattle.text_steps.specs.Reading.{groupOf, indexed, nameOf, setOf, fieldOf, colourOf, stepOf, said, beforeComment, lineOf};
 use script_steps::Step;
 use text::add;
 use text::digit;
-use text_tokens::Words;
+use text_tokens::Tokens;
 use text_tokens::byte_of;
 use text_tokens::is_byte;
-use text_tokens::words_of;
+use text_tokens::tokens_of;
 
 // A register's name: its group and index, or a word that names none.
 pub enum Name {
@@ -127,7 +127,7 @@ fn colour_of(entry: u64, red: u64, green: u64, blue: u64) -> Line
 }
 
 // A line's words read as a step.
-pub fn step_of(w: Words) -> Line
+pub fn step_of(w: Tokens) -> Line
     ensures { λ r. ⌜ r ≡ stepOf w ⌝ }
 {
     let a = w.at;
@@ -144,7 +144,7 @@ pub fn step_of(w: Words) -> Line
 }
 
 // What words say, if there are any.
-fn say(w: Words) -> Line
+fn say(w: Tokens) -> Line
     ensures { λ r. ⌜ r ≡ said w ⌝ }
 {
     let a = w.at;
@@ -154,14 +154,29 @@ fn say(w: Words) -> Line
     step_of(w)
 }
 
+// Where a line's comment begins, or the line's end.
+fn comment_start(line: &[u8]) -> usize
+    ensures { λ r. ⌜ (r ≤ length (now (line .entry))) × (take r (now (line .entry)) ≡ beforeComment true (now (line .entry))) ⌝ }
+{
+    let mut free = true;
+    let mut i = 0;
+    while i < line.len() {
+        let c = line[i];
+        if free & (c == 0x23) {
+            return i;
+        }
+        free = c < 0x21;
+        i += 1;
+    }
+    i
+}
+
 // A line read.
 pub fn read_line(line: &[u8]) -> Line
     ensures { λ r. ⌜ r ≡ lineOf (now (line .entry)) ⌝ }
 {
-    if byte_at(line, 0) == 0x23 {
-        return Line::Pass;
-    }
-    say(words_of(line))
+    let end = comment_start(line);
+    say(tokens_of(&line[..end]))
 }
 
 // The first letter of an indexed group.

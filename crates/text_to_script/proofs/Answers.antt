@@ -30,7 +30,7 @@ use Rattle.script_writer.specs.Write.{wholeSteps, blocksFor, written}
 use Rattle.script_writer.specs.declared.Written.{Written}
 use Rattle.script_writer.specs.declared.Written.the-variants.{Blocks as InBlocks, Refused as NotWritten}
 use Rattle.script_writer.proofs.Writing.{BadStep, answer-says}
-use Rattle.text_to_script.specs.Lines.{linesOf}
+use Rattle.text_to_script.specs.Lines.{textLines}
 use Rattle.text_to_script.specs.Compose.{stepVerdict, verdict, withLine, orStop, ofWriter, composedFrom, composed, gathered}
 use Rattle.text_to_script.specs.declared.Verdict.{Verdict}
 use Rattle.text_to_script.specs.declared.Verdict.the-variants.{Fine, Form, Step as Faulty, Many}
@@ -138,8 +138,8 @@ answers (l ∷ ls) k s g room r e =
     go Many is rest t = absurd (let z : _≡_ {A = ℕ} 0 1 = cc in omega arith)
 
 -- a text whose lines are all fine is refused for having no step, 8, or for too little room, 9; in 6,144 bytes for no step alone
-pub refused-why : (text : List ℕ) (room : ℕ) (r : Refusal) → composed text room ≡ Refused r → Reason (gathered [] (linesOf text)) room r
-refused-why text room r e = answers (linesOf text) 0 [] no-steps room r e
+pub refused-why : (text : List ℕ) (room : ℕ) (r : Refusal) → composed text room ≡ Refused r → Reason (gathered [] (textLines text)) room r
+refused-why text room r e = answers (textLines text) 0 [] no-steps room r e
 
 -- a line that is reported is not fine
 stopped-bad : (ls : List (List ℕ)) (k : ℕ) (s : List ℕ) (room n : ℕ) → composedFrom k s ls room ≡ Stopped Fine n → ⊥
@@ -159,4 +159,4 @@ stopped-bad (l ∷ ls) k s room n e = go (verdict (lineOf l) (length s)) (stoppe
     go Many rest t = let z : _≡_ {A = ℕ} 0 1 = cc in omega arith
 
 pub stopped-why : (text : List ℕ) (room n : ℕ) → composed text room ≡ Stopped Fine n → ⊥
-stopped-why text room n e = stopped-bad (linesOf text) 0 [] room n e
+stopped-why text room n e = stopped-bad (textLines text) 0 [] room n e

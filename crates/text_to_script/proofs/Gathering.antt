@@ -23,13 +23,14 @@ use Rattle.script_writer.specs.Write.{fileOf, written, leftBy as writtenBy}
 use Rattle.script_writer.specs.declared.Written.{Written}
 use Rattle.script_writer.specs.declared.Written.the-variants.{Blocks as InBlocks, Refused as NotWritten}
 use Rattle.script_writer.proofs.Writing.{answer-says}
-use Rattle.text_to_script.specs.Lines.{linesFrom, linesOf}
+use Rattle.text_to_script.specs.Lines.{linesFrom, linesOf, markSize, textLines}
 use Rattle.text_to_script.specs.Compose.{stepVerdict, verdict, withLine, orStop, ofWriter, composedFrom, gathered, composed, leftBy}
 use Rattle.text_to_script.specs.Working.{isFine, part, LineEnds, lineSize, Kept, AllGathered}
 use Rattle.text_to_script.specs.declared.Verdict.{Verdict}
 use Rattle.text_to_script.specs.declared.Verdict.the-variants.{Fine, Form, Step as BadStep, Many}
 use Rattle.text_to_script.specs.declared.Composed.{Composed}
 use Rattle.text_to_script.specs.declared.Composed.the-variants.{Blocks, Stopped}
+use Rattle.text_to_script.proofs.MarkLaws.{mark-within}
 
 -- ---- steps kept
 pub kept-pass : (o : List ℕ) (n : ℕ) → Kept o n Pass o n
@@ -52,14 +53,23 @@ kept-step o n s h {o₁} {e} a =
 -- ---- a turn of the loop
 pub record Going (t o : List ℕ) (from k n : ℕ) : Type 0 where
   pub answer : (room : ℕ) → composedFrom k (take n o) (linesOf (drop from t)) room ≡ composed t room
-  pub steps : gathered (take n o) (linesOf (drop from t)) ≡ gathered [] (linesOf t)
+  pub steps : gathered (take n o) (linesOf (drop from t)) ≡ gathered [] (textLines t)
   pub few : n ≤ 6053
   pub size : length o ≡ 6054
   pub counted : k ≤ from
   pub within : from ≤ length t + 1
 
-pub going-start : (t o : List ℕ) → length o ≡ 6054 → Going t o 0 0 0
-going-start t o h = record { answer = λ room. refl; steps = refl; few = omega arith; size = h; counted = omega arith; within = omega arith }
+pub going-start : (t o : List ℕ) → length o ≡ 6054 → {n : ℕ} → n ≡ markSize t → Going t o n 0 0
+going-start t o h {n} e =
+    let w : markSize t ≤ length t = mark-within t in
+    record {
+      answer = λ room. rw e;
+      steps = rw e;
+      few = omega arith;
+      size = h;
+      counted = omega arith;
+      within = omega arith;
+    }
 
 -- a step that is fine stands below the limit
 fine-few : (l : Line) (n : ℕ) → verdict l n ≡ Fine → n ≤ 6053 → n + lineSize l ≤ 6053
@@ -135,7 +145,7 @@ module _ (t o : List ℕ) (from k n : ℕ) (g : Going t o from k n) where
 
 -- ---- what the writer makes of the steps of all lines
 module _ (t out : List ℕ) where
-  left-same : (w : Written) (s : List ℕ) → s ≡ gathered [] (linesOf t) → writtenBy w s out ≡ leftBy (ofWriter w) t out
+  left-same : (w : Written) (s : List ℕ) → s ≡ gathered [] (textLines t) → writtenBy w s out ≡ leftBy (ofWriter w) t out
   left-same (InBlocks m) s e = ap (λ (l : List ℕ). put out 0 (fileOf l)) e
   left-same (NotWritten r) s e = refl
 

@@ -18,7 +18,7 @@ use Rattle.script_writer.specs.Write.{written, ofWritten}
 use Rattle.script_writer.specs.declared.Written.{Written}
 use Rattle.script_writer.specs.declared.Written.the-variants.{Blocks as InBlocks, Refused as NotWritten}
 use Rattle.script_writer.proofs.Writing.{written-number}
-use Rattle.text_to_script.specs.Lines.{linesOf}
+use Rattle.text_to_script.specs.Lines.{textLines}
 use Rattle.text_to_script.specs.Compose.{stepVerdict, verdict, withLine, orStop, ofWriter, composedFrom, composed, leftBy, ofComposed, lineTable, linesTable, composedTable}
 use Rattle.text_to_script.specs.declared.Composed.{Composed}
 
@@ -53,7 +53,7 @@ lines-number (l ∷ ls) k steps room =
     ∙ ap (lineTable (lineOf l) (length steps) k) (lines-number ls (k + 1) (withLine (lineOf l) steps) room)
 
 pub composed-number : (text : List ℕ) (room : ℕ) → ofComposed (composed text room) ≡ composedTable text room
-composed-number text room = lines-number (linesOf text) 0 [] room
+composed-number text room = lines-number (textLines text) 0 [] room
 
 -- what the contract of `compose` says, from the answer and the output
 pub composed-answered : (text o : List ℕ) {r : Composed} {o′ : List ℕ} → r ≡ composed text (length o) → o′ ≡ leftBy r text o

@@ -4,96 +4,74 @@ use Prim.Native.Nat.{ℕ, zero, suc, _+_, _*_, _/_, _%_, _≤_, _<_}
 use native.Mathlib.Omega.{arith}
 use native.Mathlib.Decide.{decLt}
 use native.Mathlib.Numerals.{add-one}
-use mathlib.Core.Bool.{Bool, true, false, cond, _&&_}
+use mathlib.Core.Bool.{true}
 use mathlib.Core.Path.{_≡_, refl, sym, ap, _∙_}
 use mathlib.Core.List.{List, [], _∷_, _++_, append-assoc, append-nil}
-use lib.Dec.{ltb, eqb}
 use lib.ListN.{length, getD, take, drop, length-take, List·getD-eq-default}
 use lib.Seq.{take-add, take-all, length-take-le}
-use borrow.Author.Tests.{lt-ltb, ltb-true, ne-eqb}
+use borrow.Author.Tests.{lt-ltb, ne-eqb}
 use Rattle.lists.specs.Put.{put}
 use Rattle.lists.specs.Tab.{Bytes}
 use Rattle.lists.proofs.Parts.{getD-part}
 use Rattle.lists.proofs.Tab.{tab-length}
 use Rattle.lists.proofs.Tests.{and-both}
-use Rattle.text.specs.Digits.{lastDigit, byteDigits}
 use Rattle.script_steps.specs.Step.{legal, bytesOf}
-use Rattle.script_steps.proofs.Lawful.{named-group, Passes, passes-good}
+use Rattle.script_steps.proofs.Lawful.{Passes, passes-good}
 use Rattle.script_steps.specs.declared.Step.{Step}
 use Rattle.script_steps.specs.declared.Step.the-variants.{Set, Field, Colour}
-use Rattle.script.specs.File.{blocks, stepPlace, checked}
+use Rattle.script.specs.File.{blocks, stepPlace, stepCount, checked}
 use Rattle.script.specs.Reader.{nextOf}
 use Rattle.script.specs.declared.Layout.the-variants.{Blocks as InFile}
 use Rattle.script.specs.declared.Checked.the-variants.{Accepted}
 use Rattle.script.specs.declared.Next.{Next}
-use Rattle.script.specs.declared.Next.the-variants.{Found}
+use Rattle.script.specs.declared.Next.the-variants.{Found, Refused as NoStep, End}
 use Rattle.script.proofs.Checking.{answer-says}
 use Rattle.script.proofs.Counting.{accepted-few}
 use Rattle.script.proofs.Reading.{accepted-handed}
-use Rattle.text_steps.specs.Written.{letter, nameText, byteText, stepText, stepLine}
+use Rattle.text_steps.specs.Written.{stepText, stepLine}
 use Rattle.text_steps.specs.declared.Line.{Line}
-use Rattle.text_steps.proofs.ReadBack.{digit-range, letter-range, reads-back}
+use Rattle.text_steps.proofs.Plain.{plainCharacter, plain, plain-other, step-plain}
+use Rattle.text_steps.proofs.ReadBack.{reads-back}
 use Rattle.text_from_script.specs.Show.{lineOfNext, textTo, textOf}
 use Rattle.script_writer.specs.Write.{fileOf, written, stepsOf}
 use Rattle.script_writer.proofs.Again.{file-again}
 use Rattle.script_writer.proofs.RoundTrip.{read-written, written-read}
-use Rattle.text_to_script.specs.Lines.{linesFrom, linesOf}
+use Rattle.text_to_script.specs.Lines.{linesFrom, linesOf, textLines}
 use Rattle.text_to_script.specs.Compose.{withLine, ofWriter, composedFrom, gathered, composed, fileOfText, leftBy}
 use Rattle.text_to_script.specs.declared.Composed.the-variants.{Blocks}
+use Rattle.text_to_script.proofs.MarkLaws.{mark-none, lines-unmarked}
 
 -- ---- a text without a line feed is a line of its own
-abbrev plain : List ℕ → Bool
-plain [] = true
-plain (c ∷ cs) = ltb 0x0A c && plain cs
-
-plain-append : (x y : List ℕ) → plain x ≡ true → plain y ≡ true → plain (x ++ y) ≡ true
-plain-append [] y h k = k
-plain-append (c ∷ cs) y h k = let t = and-both (ltb 0x0A c) (plain cs) h in rw (t .0) (plain-append cs y (t .1) k)
-
 own-line : (b l r : List ℕ) → plain l ≡ true → linesFrom b (l ++ (0x0A ∷ r)) ≡ (b ++ l) ∷ linesOf r
 unfolding linesFrom
 own-line b [] r h = ap (λ (x : List ℕ). x ∷ linesOf r) (sym (append-nil b))
 own-line b (c ∷ cs) r h =
-    let t = and-both (ltb 0x0A c) (plain cs) h in
-    let above : 0x0A < c = ltb-true 0x0A c (t .0) in
-    rw (ne-eqb c 0x0A (λ z. omega (arith, z, above))) (own-line (b ++ (c ∷ [])) cs r (t .1) ∙ ap (λ (x : List ℕ). x ∷ linesOf r) (append-assoc b (c ∷ []) cs))
-
-digit-plain : (x : ℕ) → ltb 0x0A (lastDigit x) ≡ true
-digit-plain x = lt-ltb 0x0A (lastDigit x) (omega (arith, digit-range x .0))
-
-byte-plain : (v : ℕ) → plain (byteText v) ≡ true
-byte-plain v = rw (digit-plain (v / 16), digit-plain v)
-
-name-plain : (g i : ℕ) → g < 9 → plain (nameText g i) ≡ true
-unfolding nameText
-name-plain g i h = go (eqb g 6) (eqb g 7)
-  where
-    go : (a b : Bool) → plain (cond a (0x4D ∷ 0x53 ∷ 0x52 ∷ []) (cond b (0x50 ∷ 0x41 ∷ 0x4C ∷ 0x4D ∷ 0x41 ∷ 0x53 ∷ 0x4B ∷ []) (letter g ∷ 0x52 ∷ byteDigits i))) ≡ true
-    go true b = refl
-    go false true = refl
-    go false false = rw (lt-ltb 0x0A (letter g) (omega (arith, letter-range g h .0)), digit-plain (i / 16), digit-plain i)
-
-step-plain : (s : Step) → legal s ≡ true → plain (stepText s) ≡ true
-unfolding stepText legal
-step-plain (Set g i v) ok = plain-append (nameText g i) (byteText v) (name-plain g i (named-group g i ok)) (byte-plain v)
-step-plain (Field g i v m) ok =
-    let t = and-both _ _ ok in
-    plain-append (nameText g i ++ byteText m) (byteText v)
-    (plain-append (nameText g i) (byteText m) (name-plain g i (named-group g i (t .0))) (byte-plain m))
-    (byte-plain v)
-step-plain (Colour e r g b) ok = rw (
-  digit-plain (e / 16),
-  digit-plain e,
-  digit-plain (r / 16),
-  digit-plain r,
-  digit-plain (g / 16),
-  digit-plain g,
-  digit-plain (b / 16),
-  digit-plain b,
-)
+    let t = and-both (plainCharacter c) (plain cs) h in
+    rw (ne-eqb c 0x0A (plain-other c (t .0) .0)) (own-line (b ++ (c ∷ [])) cs r (t .1) ∙ ap (λ (x : List ℕ). x ∷ linesOf r) (append-assoc b (c ∷ []) cs))
 
 step-lines : (s : Step) → legal s ≡ true → (r : List ℕ) → linesOf (stepLine s ++ r) ≡ stepText s ∷ linesOf r
 step-lines s ok r = ap linesOf (append-assoc (stepText s) (0x0A ∷ []) r) ∙ own-line [] (stepText s) r (step-plain s ok)
+
+-- ---- a text of steps begins with a letter, and has no mark
+head-append : (x y : List ℕ) (k : ℕ) → getD x 0 0 < k → getD y 0 0 < k → getD (x ++ y) 0 0 < k
+head-append [] y k h g = g
+head-append (c ∷ cs) y k h g = h
+
+step-first : (s : Step) → getD (stepLine s) 0 0 < 0xEF
+unfolding stepText
+step-first (Set g i v) = omega arith
+step-first (Field g i v m) = omega arith
+step-first (Colour e r g b) = omega arith
+
+next-first : (x : Next) → getD (lineOfNext x) 0 0 < 0xEF
+next-first (Found s) = step-first s
+next-first (NoStep r) = omega arith
+next-first End = omega arith
+
+text-first : (f : List ℕ) (n : ℕ) → getD (textTo f n) 0 0 < 0xEF
+unfolding textTo
+text-first f zero = omega arith
+text-first f (suc n) = head-append (textTo f n) (lineOfNext (nextOf f n)) 0xEF (text-first f n) (next-first (nextOf f n))
 
 -- ---- a step's line adds the step's bytes
 module _ (s : Step) (ok : Passes s) (bytes : Bytes (bytesOf s)) (k : ℕ) (before : List ℕ) (few : length before < 6048) (r : List ℕ) where
@@ -169,12 +147,12 @@ module _ (f : List ℕ) (m : ℕ) (bytes : Bytes f) (acc : checked f ≡ Accepte
   below n h = let e : length (take (6 * n) S) ≡ 6 * n = length-take-le (6 * n) S (omega (arith, size)) in omega (arith, few)
 
   -- the lines of the first n steps, whatever text follows
-  composes-to : (n : ℕ) → n ≤ m → (r : List ℕ) (room : ℕ) → composed (textTo f n ++ r) room ≡ composedFrom n (take (6 * n) S) (linesOf r) room
+  composes-to : (n : ℕ) → n ≤ m → (r : List ℕ) (room : ℕ) → composedFrom 0 [] (linesOf (textTo f n ++ r)) room ≡ composedFrom n (take (6 * n) S) (linesOf r) room
   unfolding textTo
   composes-to zero h r room = refl
   composes-to (suc n) h r room =
       let t = there n h in
-      ap (λ (l : List ℕ). composed l room) (text-split n h r)
+      ap (λ (l : List ℕ). composedFrom 0 [] (linesOf l) room) (text-split n h r)
       ∙ composes-to n (omega arith) (stepLine (t .step) ++ r) room
       ∙ line-composes (t .step) (t .passes) (t .in-bytes) n (take (6 * n) S) (below n h) r room
       ∙ ap (λ (l : List ℕ). composedFrom (n + 1) l (linesOf r) room) (steps-next n h)
@@ -196,15 +174,20 @@ module _ (f : List ℕ) (m : ℕ) (bytes : Bytes f) (acc : checked f ≡ Accepte
   whole : textOf f ≡ textTo f m ++ []
   whole = ap (textTo f) (answer-says f acc .count) ∙ sym (append-nil (textTo f m))
 
+  unmarked : textLines (textOf f) ≡ linesOf (textOf f)
+  unmarked = lines-unmarked (textOf f) (mark-none (textOf f) (text-first f (stepCount f)))
+
   pub text-composes : (room : ℕ) → composed (textOf f) room ≡ ofWriter (written S room)
   unfolding linesFrom composedFrom
   text-composes room =
-      ap (λ (l : List ℕ). composed l room) whole ∙ composes-to m (omega arith) [] room ∙ ap (λ (l : List ℕ). ofWriter (written l room)) all-steps
+      ap (λ (ls : List (List ℕ)). composedFrom 0 [] ls room) unmarked
+      ∙ ap (λ (l : List ℕ). composedFrom 0 [] (linesOf l) room) whole ∙ composes-to m (omega arith) [] room ∙ ap (λ (l : List ℕ). ofWriter (written l room)) all-steps
 
   pub text-file : fileOfText (textOf f) ≡ f
   unfolding linesFrom gathered
   text-file =
-      ap (λ (l : List ℕ). fileOf (gathered [] (linesOf l))) whole
+      ap (λ (ls : List (List ℕ)). fileOf (gathered [] ls)) unmarked
+      ∙ ap (λ (l : List ℕ). fileOf (gathered [] (linesOf l))) whole
       ∙ ap fileOf (gathers-to m (omega arith) [] ∙ all-steps)
       ∙ file-again f m bytes (answer-says f acc)
 

@@ -19,7 +19,7 @@ use Rattle.script.specs.Numbers.{ofRefusal}
 use Rattle.script_writer.specs.Write.{fileOf, written, writtenTable}
 use Rattle.script_writer.specs.declared.Written.{Written}
 use Rattle.script_writer.specs.declared.Written.the-variants.{Blocks as InBlocks, Refused as NotWritten}
-use Rattle.text_to_script.specs.Lines.{linesOf}
+use Rattle.text_to_script.specs.Lines.{textLines}
 use Rattle.text_to_script.specs.declared.Verdict.{Verdict}
 use Rattle.text_to_script.specs.declared.Verdict.the-variants.{Fine, Form, Step, Many}
 use Rattle.text_to_script.specs.declared.Composed.{Composed}
@@ -63,10 +63,10 @@ gathered steps (l ∷ ls) = gathered (withLine (lineOf l) steps) ls
 
 -- the answer, the file, and what the lent output then holds
 abbrev pub composed : List ℕ → ℕ → Composed
-composed text room = composedFrom 0 [] (linesOf text) room
+composed text room = composedFrom 0 [] (textLines text) room
 
 abbrev pub fileOfText : List ℕ → List ℕ
-fileOfText text = fileOf (gathered [] (linesOf text))
+fileOfText text = fileOf (gathered [] (textLines text))
 
 abbrev pub leftBy : Composed → List ℕ → List ℕ → List ℕ
 leftBy (Blocks n) text out = put out 0 (fileOfText text)
@@ -99,4 +99,4 @@ linesTable k steps [] room = writtenTable steps room
 linesTable k steps (l ∷ ls) room = lineTable (lineOf l) (length steps) k (linesTable (k + 1) (withLine (lineOf l) steps) ls room)
 
 abbrev pub composedTable : List ℕ → ℕ → Returned
-composedTable text room = linesTable 0 [] (linesOf text) room
+composedTable text room = linesTable 0 [] (textLines text) room

@@ -7,7 +7,7 @@ use lib.ListN.{length, take, drop}
 use Rattle.text_steps.specs.declared.Line.{Line}
 use Rattle.text_steps.specs.declared.Line.the-variants.{Pass, Is, Other}
 use Rattle.script_writer.specs.Write.{written}
-use Rattle.text_to_script.specs.Lines.{linesOf}
+use Rattle.text_to_script.specs.Lines.{linesOf, textLines}
 use Rattle.text_to_script.specs.Compose.{withLine, ofWriter, composed, gathered}
 use Rattle.text_to_script.specs.declared.Verdict.{Verdict}
 use Rattle.text_to_script.specs.declared.Verdict.the-variants.{Fine, Form, Step, Many}
@@ -44,7 +44,7 @@ pub record Kept (before : List ℕ) (n : ℕ) (line : Line) (after : List ℕ) (
 
 pub record AllGathered (text : List ℕ) (buffer : List ℕ) (n : ℕ) : Type 0 where
   pub within : n ≤ length buffer
-  pub steps : take n buffer ≡ gathered [] (linesOf text)
+  pub steps : take n buffer ≡ gathered [] (textLines text)
   pub answer : (room : ℕ) → composed text room ≡ ofWriter (written (take n buffer) room)
 
 abbrev pub Gathers : List ℕ → List ℕ → Gathered → Type 0

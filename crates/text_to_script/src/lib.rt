@@ -1,4 +1,4 @@
-// A text made into a script file: a step a line, blank lines and those that begin with `#` passed over. The definitions are
+// A text made into a script file: a step a line, with comments and blank lines passed over. The definitions are
 // specs/Lines and specs/Compose; how a line is read is the crate text_steps's, and the file the crate script_writer's. That composing what the
 // crate text_from_script makes of a file gives the file again is proofs/SameFile. Reading a text and printing the file is the program
 // compose's.
@@ -7,9 +7,11 @@ ghost use Prim.Native.Nat.{_+_, _≤_, _<_};
 ghost use lib.ListN.{length};
 ghost use Rattle.text.specs.Adding.{withAddedIn, behindIn, Added};
 ghost use Rattle.script_writer.specs.Write.{written, leftBy as writtenBy};
+ghost use Rattle.text_to_script.specs.Lines.{markSize};
 ghost use Rattle.text_to_script.specs.Compose.{stepVerdict, verdict, verdictNumber, ofWriter, composed, leftBy, ofComposed, composedTable};
 ghost use Rattle.text_to_script.specs.Complaint.{lineNumber, wrong, stoppedText, refusalText, complaint};
 ghost use Rattle.text_to_script.specs.Working.{isFine, LineEnds, lineSize, Kept, Gathers};
+use lists::byte_at;
 use script::Refusal;
 use script_steps::Fault;
 use script_steps::StepRead;
@@ -18,7 +20,7 @@ use script_writer::Written;
 use script_writer::write;
 use text::add;
 use text::add_place;
-use text::add_refused;
+use text_refusals::add_reason;
 use text_steps::Line;
 use text_steps::read_line;
 
@@ -123,12 +125,22 @@ fn keep(steps: &mut [u8], n: usize, line: Line) -> usize
     }
 }
 
+// How many bytes of the mark of UTF-8 a text begins with.
+fn mark_size(text: &[u8]) -> usize
+    ensures { λ r. ⌜ r ≡ markSize (now (text .entry)) ⌝ }
+{
+    if (byte_at(text, 0) == 0xEF) & (byte_at(text, 1) == 0xBB) & (byte_at(text, 2) == 0xBF) {
+        return 3;
+    }
+    0
+}
+
 // The steps of a text's lines into a buffer, or the first line that is not fine.
 fn gather(text: &[u8], steps: &mut [u8]) -> Gathered
     requires { ⌜ length (now steps) ≡ 6054 ⌝ }
     ensures { λ r. ⌜ Gathers (now (text .entry)) (now (steps .exit)) r ⌝ }
 {
-    let mut from = 0;
+    let mut from = mark_size(text);
     let mut k = 0;
     let mut n = 0;
     while from < text.len() {
@@ -197,18 +209,18 @@ fn line_number(k: usize) -> usize
 
 // What is wrong with a line.
 fn put_wrong(out: &mut [u8], at: usize, number: u8) -> usize
-    requires { ⌜ at + 29 ≤ length (now out) ⌝ }
+    requires { ⌜ at + 91 ≤ length (now out) ⌝ }
     ensures { λ r. ⌜ Added (now (out .entry)) at (wrong number) (now (out .exit)) r ⌝ }
 {
     if number == 0 {
         return add(out, at, b"not a step\n");
     }
-    add_refused(out, at, number as usize)
+    add_reason(out, at, number)
 }
 
 // A line that is not fine.
 fn put_stopped(out: &mut [u8], at: usize, number: u8, k: usize) -> usize
-    requires { ⌜ at + 80 ≤ length (now out) ⌝ }
+    requires { ⌜ at + 128 ≤ length (now out) ⌝ }
     ensures { λ r. ⌜ Added (now (out .entry)) at (stoppedText number k) (now (out .exit)) r ⌝ }
 {
     let what = add_place(out, at, b"compose: line ", line_number(k));
@@ -217,16 +229,16 @@ fn put_stopped(out: &mut [u8], at: usize, number: u8, k: usize) -> usize
 
 // What the writer refuses.
 fn put_refusal(out: &mut [u8], at: usize, number: u8) -> usize
-    requires { ⌜ at + 80 ≤ length (now out) ⌝ }
+    requires { ⌜ at + 128 ≤ length (now out) ⌝ }
     ensures { λ r. ⌜ Added (now (out .entry)) at (refusalText number) (now (out .exit)) r ⌝ }
 {
     let what = add(out, at, b"compose: ");
-    add_refused(out, what, number as usize)
+    add_reason(out, what, number)
 }
 
 // What is said of an answer.
 fn put_complaint(out: &mut [u8], at: usize, c: Composed) -> usize
-    requires { ⌜ at + 80 ≤ length (now out) ⌝ }
+    requires { ⌜ at + 128 ≤ length (now out) ⌝ }
     ensures { λ r. ⌜ Added (now (out .entry)) at (complaint c) (now (out .exit)) r ⌝ }
 {
     match c {
@@ -236,15 +248,16 @@ fn put_complaint(out: &mut [u8], at: usize, c: Composed) -> usize
     }
 }
 
-// What is said of an answer, in one line behind what stands in an output, if there is room for 80 bytes; where the next byte goes.
+// What is said of an answer, in one line behind what stands in an output, if there is room for 128 bytes; where the next
+// byte goes.
 pub fn complain(c: Composed, out: &mut [u8], at: usize) -> usize
-    ensures { λ r. ⌜ r ≡ behindIn 80 (now (out .entry)) at (complaint c) ⌝ }
-    ensures { λ r. ⌜ now (out .exit) ≡ withAddedIn 80 (now (out .entry)) at (complaint c) ⌝ }
+    ensures { λ r. ⌜ r ≡ behindIn 128 (now (out .entry)) at (complaint c) ⌝ }
+    ensures { λ r. ⌜ now (out .exit) ≡ withAddedIn 128 (now (out .entry)) at (complaint c) ⌝ }
 {
-    if out.len() < 80 {
+    if out.len() < 128 {
         return at;
     }
-    if out.len() - 80 < at {
+    if out.len() - 128 < at {
         return at;
     }
     put_complaint(out, at, c)

@@ -1,3 +1,3 @@
--- The laws of this crate: of words (WordLaws) and of numbers (HexLaws). The other folders have a function's proof each.
-pub mod WordLaws
+-- The laws of this crate: of words (TokenLaws) and of numbers (HexLaws). The other folders have a function's proof each.
+pub mod TokenLaws
 pub mod HexLaws

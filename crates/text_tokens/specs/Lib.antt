@@ -1,3 +1,3 @@
--- What has to be believed of a line: its words (Words), and words that are numbers (Hex).
-pub mod Words
+-- What has to be believed of a line: its words (Tokens), and words that are numbers (Hex).
+pub mod Tokens
 pub mod Hex

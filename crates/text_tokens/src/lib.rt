@@ -1,11 +1,11 @@
-// A line of text as words, and words as hexadecimal numbers: what a program reads. The definitions are specs/Words and specs/Hex.
+// A line of text as words, and words as hexadecimal numbers: what a program reads. The definitions are specs/Tokens and specs/Hex.
 ghost use mathlib.Core.Path.{_≡_};
-ghost use Rattle.text_tokens.specs.Words.{capital, grown, ended, taken, wordsOf};
+ghost use Rattle.text_tokens.specs.Tokens.{capital, grown, ended, taken, tokensOf};
 ghost use Rattle.text_tokens.specs.Hex.{digitValue, isDigit, isByte, byteOf, allDigits, valueIn, numberOf};
 
 // The words of a line: how many, at most thirteen; the one that has begun, 0 between words; and each of them, 0 where there is
 // none.
-pub struct Words {
+pub struct Tokens {
     pub count: usize,
     pub begun: u64,
     pub at: [u64; 13],
@@ -45,7 +45,7 @@ fn grow(word: u64, c: u8) -> u64
 }
 
 // The word that was begun is at its end.
-fn finish(s: Words) -> Words
+fn finish(s: Tokens) -> Tokens
     ensures { λ r. ⌜ r ≡ ended s ⌝ }
 {
     let mut at = s.at;
@@ -55,14 +55,14 @@ fn finish(s: Words) -> Words
         return s;
     }
     if 13 <= n {
-        return Words {
+        return Tokens {
             count: n,
             begun: 0,
             at,
         };
     }
     at[n] = word;
-    Words {
+    Tokens {
         count: n + 1,
         begun: 0,
         at,
@@ -70,7 +70,7 @@ fn finish(s: Words) -> Words
 }
 
 // A character more of the line.
-fn follow(s: Words, c: u8) -> Words
+fn follow(s: Tokens, c: u8) -> Tokens
     ensures { λ r. ⌜ r ≡ taken s c ⌝ }
 {
     if c < 0x21 {
@@ -78,7 +78,7 @@ fn follow(s: Words, c: u8) -> Words
     }
     let at = s.at;
     let begun = grow(s.begun, c);
-    Words {
+    Tokens {
         count: s.count,
         begun,
         at,
@@ -86,10 +86,10 @@ fn follow(s: Words, c: u8) -> Words
 }
 
 // The words of a line.
-pub fn words_of(line: &[u8]) -> Words
-    ensures { λ r. ⌜ r ≡ wordsOf (now (line .entry)) ⌝ }
+pub fn tokens_of(line: &[u8]) -> Tokens
+    ensures { λ r. ⌜ r ≡ tokensOf (now (line .entry)) ⌝ }
 {
-    let mut s = Words {
+    let mut s = Tokens {
         count: 0,
         begun: 0,
         at: [0; 13],

@@ -9,7 +9,7 @@ use lib.Dec.{ltb, leb, eqb}
 use lib.ListN.{length, take, drop, set, getD}
 use Rattle.chip.specs.State.{Named, named}
 use Rattle.text.specs.Adding.{withAddedIn, behindIn}
-use Rattle.text_tokens.specs.Words.{wordsOf}
+use Rattle.text_tokens.specs.Tokens.{tokensOf}
 use Rattle.workbench_requests.specs.Request.{requestOf}
 use Rattle.workbench_requests.specs.declared.Request.{Request}
 use Rattle.workbench_requests.specs.declared.Request.the-variants.{Pass, Unknown}
@@ -26,7 +26,7 @@ use Rattle.workbench_input.specs.declared.lines.Fed.{Fed}
 -- a line on a bench where the end was asked for or not; `#` is 23h
 unfoldable pub requestIn : Bool → List ℕ → Request
 requestIn ended line =
-    cond ended Pass (cond (eqb (getD line 0 0) 0x23) Pass (cond (ltb 255 (length line)) Unknown (requestOf (wordsOf line))))
+    cond ended Pass (cond (eqb (getD line 0 0) 0x23) Pass (cond (ltb 255 (length line)) Unknown (requestOf (tokensOf line))))
 
 abbrev pub lineActed : Bench → List ℕ → List ℕ → Acted
 lineActed b store line = acted b store (requestIn (b .ended) line)

@@ -10,7 +10,7 @@ use crate::Bench;
 use crate::act;
 use crate::shorter_of;
 use lists::byte_at;
-use text_tokens::words_of;
+use text_tokens::tokens_of;
 use workbench_replies::print;
 use workbench_requests::Request;
 use workbench_requests::request_of;
@@ -47,7 +47,7 @@ fn request_in(ended: bool, line: &[u8]) -> Request
     if 255 < line.len() {
         return Request::Unknown;
     }
-    let w = words_of(line);
+    let w = tokens_of(line);
     request_of(w)
 }
 

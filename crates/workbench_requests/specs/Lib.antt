@@ -1,3 +1,2 @@
--- What has to be believed of a request: the number of a word (Token), and what a line's words ask for (Request).
-pub mod Token
+-- What has to be believed of a request: what the tokens of a line ask for (Request).
 pub mod Request

@@ -6,12 +6,11 @@ use Prim.Native.Nat.{ℕ, _+_}
 use mathlib.Core.Bool.{Bool, false, cond, _&&_}
 use lib.Dec.{leb, eqb}
 use Rattle.text_tokens.specs.Hex.{numberOf}
-use Rattle.text_tokens.specs.Words.{word}
-use Rattle.text_tokens.specs.declared.Words.{Words}
+use Rattle.text_tokens.specs.Tokens.{tokenAt, token}
+use Rattle.text_tokens.specs.declared.Tokens.{Tokens}
 use Rattle.text_tokens.specs.declared.Number.{Number}
 use Rattle.text_tokens.specs.declared.Number.the-variants.{Of, Other}
 use Rattle.blit_frame.specs.declared.Transfer.{Transfer}
-use Rattle.workbench_requests.specs.Token.{token}
 use Rattle.workbench_requests.specs.declared.Request.{Request}
 use Rattle.workbench_requests.specs.declared.Request.the-variants.{Reset, Out, In, Pixel, Lend, Read, Write, Block, Dump, Help, Quit, Pass, Unknown}
 
@@ -32,42 +31,42 @@ value most word = cond (fits most word) (valueOf (numberOf word)) 0
 
 -- ---- the words of a line by their place, the name being 0
 -- the name, and no word behind the n that follow it
-abbrev pub form : Words → ℕ → ℕ → Bool
-form w name n = eqb (word w 0) name && eqb (word w (n + 1)) 0
+abbrev pub form : Tokens → ℕ → ℕ → Bool
+form w name n = eqb (tokenAt w 0) name && eqb (tokenAt w (n + 1)) 0
 
 -- a port, a byte, a direction, and a number of any value
-abbrev pub isPort : Words → ℕ → Bool
-isPort w k = fits 0xFFFF (word w k)
+abbrev pub isPort : Tokens → ℕ → Bool
+isPort w k = fits 0xFFFF (tokenAt w k)
 
-abbrev pub port : Words → ℕ → ℕ
-port w k = value 0xFFFF (word w k)
+abbrev pub port : Tokens → ℕ → ℕ
+port w k = value 0xFFFF (tokenAt w k)
 
-abbrev pub isByte : Words → ℕ → Bool
-isByte w k = fits 0xFF (word w k)
+abbrev pub isByte : Tokens → ℕ → Bool
+isByte w k = fits 0xFF (tokenAt w k)
 
-abbrev pub byte : Words → ℕ → ℕ
-byte w k = value 0xFF (word w k)
+abbrev pub byte : Tokens → ℕ → ℕ
+byte w k = value 0xFF (tokenAt w k)
 
-abbrev pub isDirection : Words → ℕ → Bool
-isDirection w k = fits 1 (word w k)
+abbrev pub isDirection : Tokens → ℕ → Bool
+isDirection w k = fits 1 (tokenAt w k)
 
-abbrev pub direction : Words → ℕ → Bool
-direction w k = eqb (value 1 (word w k)) 1
+abbrev pub direction : Tokens → ℕ → Bool
+direction w k = eqb (value 1 (tokenAt w k)) 1
 
-abbrev pub isNumber : Words → ℕ → Bool
-isNumber w k = fits 0xFFFFFFFF (word w k)
+abbrev pub isNumber : Tokens → ℕ → Bool
+isNumber w k = fits 0xFFFFFFFF (tokenAt w k)
 
-abbrev pub number : Words → ℕ → ℕ
-number w k = value 0xFFFFFFFF (word w k)
+abbrev pub number : Tokens → ℕ → ℕ
+number w k = value 0xFFFFFFFF (tokenAt w k)
 
 -- ---- the eleven numbers of a transfer: destination, its span, source, its span, width, height, code, right to left, bottom to top,
 -- pattern address, pattern row
-unfoldable pub isTransfer : Words → Bool
+unfoldable pub isTransfer : Tokens → Bool
 isTransfer w =
     isNumber w 1 && isNumber w 2 && isNumber w 3 && isNumber w 4 && isNumber w 5 && isNumber w 6
     && isByte w 7 && isDirection w 8 && isDirection w 9 && isNumber w 10 && isNumber w 11
 
-unfoldable pub transferOf : Words → Transfer
+unfoldable pub transferOf : Tokens → Transfer
 transferOf w = record {
   destination = record { address = number w 1; span = number w 2 };
   source = record { address = number w 3; span = number w 4 };
@@ -81,7 +80,7 @@ transferOf w = record {
 }
 
 -- ---- the requests
-unfoldable pub requestOf : Words → Request
+unfoldable pub requestOf : Tokens → Request
 requestOf w =
     cond (form w (token "RESET") 2 && isByte w 1 && isByte w 2) (Reset (byte w 1) (byte w 2))
     (cond (form w (token "O") 2 && isPort w 1 && isByte w 2) (Out (port w 1) (byte w 2))
@@ -95,5 +94,5 @@ requestOf w =
     (cond (form w (token "?") 0) Help
     (cond (form w (token "HELP") 0) Help
     (cond (form w (token "Q") 0) Quit
-    (cond (eqb (word w 0) 0) Pass
+    (cond (eqb (tokenAt w 0) 0) Pass
     Unknown))))))))))))

@@ -7,7 +7,7 @@ ghost use Rattle.workbench_requests.specs.Request.{fits as isUpTo, value
 use blit_frame::Area;
 use blit_frame::Transfer;
 use text_tokens::Number;
-use text_tokens::Words;
+use text_tokens::Tokens;
 use text_tokens::number_of;
 
 // What a line asks for.
@@ -117,7 +117,7 @@ fn is_number(word: u64) -> bool
 }
 
 // Whether the words behind the name are a transfer's numbers.
-fn is_transfer(w: Words) -> bool
+fn is_transfer(w: Tokens) -> bool
     ensures { λ r. ⌜ r ≡ isTransfer w ⌝ }
 {
     let at = w.at;
@@ -135,7 +135,7 @@ fn is_transfer(w: Words) -> bool
 }
 
 // The transfer that they say.
-fn transfer_of(w: Words) -> Transfer
+fn transfer_of(w: Tokens) -> Transfer
     ensures { λ r. ⌜ r ≡ transferOf w ⌝ }
 {
     let at = w.at;
@@ -161,7 +161,7 @@ fn transfer_of(w: Words) -> Transfer
 }
 
 // What a line's words ask for.
-pub fn request_of(w: Words) -> Request
+pub fn request_of(w: Tokens) -> Request
     ensures { λ r. ⌜ r ≡ requestOf w ⌝ }
 {
     let at = w.at;

@@ -15,8 +15,8 @@ print-complaint-spec =
     tie.close
     (tie.spec
     (λ c κs. search needs)
-    (λ c. let a = c .before .before .before .before .before .args in omega (arith, behind-within 80 (now (a .file)) 0 (complaint (a .c)) (complaint-most (a .c)) (omega arith), c .before .before .complain .ensures .0, c .before .before .complain .kept .1 .0))
-    (λ c. let a = c .before .before .before .before .before .before .args in sym (length-take-le _ _ (omega (arith, behind-within 80 (now (a .file)) 0 (complaint (a .c)) (complaint-most (a .c)) (omega arith), c .before .before .before .complain .ensures .0, c .before .before .before .complain .kept .1 .0))))
+    (λ c. let a = c .before .before .before .before .before .args in omega (arith, behind-within 128 (now (a .file)) 0 (complaint (a .c)) (complaint-most (a .c)) (omega arith), c .before .before .complain .ensures .0, c .before .before .complain .kept .1 .0))
+    (λ c. let a = c .before .before .before .before .before .before .args in sym (length-take-le _ _ (omega (arith, behind-within 128 (now (a .file)) 0 (complaint (a .c)) (complaint-most (a .c)) (omega arith), c .before .before .before .complain .ensures .0, c .before .before .before .complain .kept .1 .0))))
     (λ c κs. search needs)
     (λ c. search needs)
     (λ c. search needs))

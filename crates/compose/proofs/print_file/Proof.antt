@@ -7,7 +7,7 @@ use borrow.Author.Needs.{needs}
 use denote.Ref.{now}
 use lib.ListN.{length}
 use lib.Seq.{length-take-le}
-use Rattle.text_to_script.specs.Lines.{linesOf}
+use Rattle.text_to_script.specs.Lines.{textLines}
 use Rattle.text_to_script.proofs.Gathering.{composed-within}
 use Rattle.compose.proofs.print_file.Statement.{statement}
 use Rattle.compose.proofs.print_file.Tie as tie
@@ -16,7 +16,7 @@ within : (c : tie.After-known-told) → 512 * c .before .c .given .0 .0 ≤ leng
 within c =
     let d = c .before .before .before .before .before .compose in
     let a = c .before .before .before .before .before .before .before .before .before .args in
-    omega (arith, composed-within (linesOf (now (a .text))) 0 [] (length (now (a .file))) _ (sym (d .ensures .0) ∙ c .before .c .given .1), d .kept .1 .0)
+    omega (arith, composed-within (textLines (now (a .text))) 0 [] (length (now (a .file))) _ (sym (d .ensures .0) ∙ c .before .c .given .1), d .kept .1 .0)
 
 pub print-file-spec : {M : Type 1} → statement M
 print-file-spec =
@@ -28,8 +28,9 @@ print-file-spec =
     (λ c. search needs)
     (λ c. search needs)
     (λ c. omega (arith, within c))
-    (λ c. within c)
-    (λ c. sym (length-take-le _ _ (within (c .before))))
+    (λ c. search needs)
+    (λ c. within (c .before))
+    (λ c. sym (length-take-le _ _ (within (c .before .before))))
     (λ c κs. search needs)
     (λ c. search needs)
     (λ c. search needs))

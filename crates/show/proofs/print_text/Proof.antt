@@ -15,8 +15,9 @@ print-text-spec =
     (tie.spec
     (λ c κs. search needs)
     (λ c. search needs)
-    (λ c. let a = c .before .before .before .before .before .before .before .before .before .args in omega (arith, shown-within (now (a .file)) (length (now (a .text))) _ (sym (c .before .before .before .before .before .show .ensures .0) ∙ c .before .n .given .1), c .before .before .before .before .before .show .kept .1 .0))
-    (λ c. let a = c .before .before .before .before .before .before .before .before .before .before .args in sym (length-take-le _ _ (omega (arith, shown-within (now (a .file)) (length (now (a .text))) _ (sym (c .before .before .before .before .before .before .show .ensures .0) ∙ c .before .before .n .given .1), c .before .before .before .before .before .before .show .kept .1 .0))))
+    (λ c. search needs)
+    (λ c. let a = c .before .before .before .before .before .before .before .before .before .before .args in omega (arith, shown-within (now (a .file)) (length (now (a .text))) _ (sym (c .before .before .before .before .before .before .show .ensures .0) ∙ c .before .before .n .given .1), c .before .before .before .before .before .before .show .kept .1 .0))
+    (λ c. let a = c .before .before .before .before .before .before .before .before .before .before .before .args in sym (length-take-le _ _ (omega (arith, shown-within (now (a .file)) (length (now (a .text))) _ (sym (c .before .before .before .before .before .before .before .show .ensures .0) ∙ c .before .before .before .n .given .1), c .before .before .before .before .before .before .before .show .kept .1 .0))))
     (λ c κs. search needs)
     (λ c. search needs)
     (λ c κs. search needs)

@@ -11,7 +11,8 @@ use Rattle.script_commands.specs.Translation.{commandsTo, translated, leftBy}
 use Rattle.script_commands.specs.declared.Translated.{Translated}
 use Rattle.script_commands.specs.declared.Translated.the-variants.{Commands, Refused}
 use Rattle.text_listing.specs.Line.{linesOf}
-use Rattle.text_listing.specs.Text.{header, refusal}
+use Rattle.text.specs.Refused.{refused}
+use Rattle.text_listing.specs.Text.{header}
 use Rattle.text_listing.specs.Adding.{linesTo}
 use Rattle.text_listing.proofs.Listing.{Few, translated-few, lines-left, listed-short, listed-text, listed-answered}
 use Rattle.text_listing.proofs.list.Statement.{statement}
@@ -57,7 +58,7 @@ returns-3 c =
     let a = start-r (c .before .before .before .before .before .before .before) .args in
     let t = c .before .before .before .before .before .before .before .before .before .before .before .translate .ensures in
     let l = listed-text (now (a .file)) (length (now (a .work))) (now (a .out)) _ (is-r (c .before .before .before .before .before .before .before)) (c .before .before .before .before .before .if1 .left)
-    (ap refusal (c .before .before .before .number .ensures)) (c .before .before .add-refusal .ensures) in
+    (ap refused (c .before .before .before .number .ensures)) (c .before .before .add-refusal .ensures) in
     listed-answered (now (a .file)) (length (now (a .work))) (length (now (a .out))) (l .0) (l .1) (t .1 .0 ∙ ap (λ (x : Translated). leftBy x (now (a .file)) (now (a .work))) (t .0))
 
 -- the header and the lines

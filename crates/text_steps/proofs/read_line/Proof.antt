@@ -1,7 +1,8 @@
--- A line that begins with `#`, and any other.
-use mathlib.Core.Path.{ap, _∙_}
+-- What stands before the comment, as tokens, and what they say.
+use mathlib.Core.Path.{sym, ap, _∙_}
 use borrow.Author.Needs.{needs}
-use borrow.Author.Tests.{eq-eqb, ne-eqb}
+use lib.Seq.{length-take-le}
+use Rattle.text_tokens.specs.Tokens.{tokensOf}
 use Rattle.text_steps.specs.Reading.{said, lineOf}
 use Rattle.text_steps.proofs.read_line.Statement.{statement}
 use Rattle.text_steps.proofs.read_line.Tie as tie
@@ -12,7 +13,7 @@ read-line-spec =
     tie.close
     (tie.spec
     (λ c κs. search needs)
-    (λ c. rw (← c .before .byte-at .ensures, eq-eqb _ _ (c .if1 .taken)))
+    (λ c. sym (length-take-le _ _ (c .before .comment-start .ensures .0)))
     (λ c κs. search needs)
     (λ c κs. search needs)
-    (λ c. rw (← c .before .before .before .byte-at .ensures, ne-eqb _ _ (c .before .before .if1 .left)) (c .say .ensures ∙ ap said (c .before .words-of .ensures))))
+    (λ c. c .say .ensures ∙ ap said (c .before .tokens-of .ensures ∙ ap tokensOf (c .before .before .before .comment-start .ensures .1))))

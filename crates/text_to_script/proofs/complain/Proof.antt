@@ -11,9 +11,9 @@ pub complain-spec : {M : Type 1} → statement M
 complain-spec =
     tie.close
     (tie.spec
-    (λ c. let a = c .before .before .args in none-in 80 (now (a .out)) (a .at) (complaint (a .c)) (omega arith))
+    (λ c. let a = c .before .before .args in none-in 128 (now (a .out)) (a .at) (complaint (a .c)) (omega arith))
     (λ c. search needs)
-    (λ c. let a = c .before .before .before .args in none-in 80 (now (a .out)) (a .at) (complaint (a .c)) (omega arith))
+    (λ c. let a = c .before .before .before .args in none-in 128 (now (a .out)) (a .at) (complaint (a .c)) (omega arith))
     (λ c κs. search needs)
     (λ c. search needs)
-    (λ c. let a = c .before .before .before .before .before .before .before .args in in-added 80 (now (a .out)) (a .at) (complaint (a .c)) (omega arith) (c .before .before .put-complaint .ensures)))
+    (λ c. let a = c .before .before .before .before .before .before .before .args in in-added 128 (now (a .out)) (a .at) (complaint (a .c)) (omega arith) (c .before .before .put-complaint .ensures)))

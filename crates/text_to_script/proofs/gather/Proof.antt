@@ -27,7 +27,8 @@ gather-spec =
     (tie.spec
     Inv-loop
     μ-loop
-    (λ c. going-start (now (c .before .before .args .text)) (now (c .before .before .args .steps)) (c .before .before .pre))
+    (λ c κs. search needs)
+    (λ c. let a = c .before .before .before in going-start (now (a .args .text)) (now (a .args .steps)) (a .pre) (c .mark-size .ensures))
     (λ c κs. search needs)
     (λ c. omega (arith, c .line-end .ensures .after))
     (λ c. omega (arith, c .line-end .ensures .after, c .line-end .ensures .within))
@@ -35,20 +36,20 @@ gather-spec =
     (λ c κs. search needs)
     (λ c κs. search needs)
     (λ c κs. search needs)
-    (λ c. c .before .before .before .before .before .before .before .loop .inv .size ∙ sym (c .before .before .before .before .before .before .before .before .before .before .pre))
+    (λ c. c .before .before .before .before .before .before .before .loop .inv .size ∙ sym (c .before .before .before .before .before .before .before .before .before .before .before .pre))
     (λ c. λ room. let l = c .before .before .before .before .before .before .before .loop in
     let line = c .before .before .before .read-line .ensures in
     let v = c .before .before .judge .ensures in
     let bad : isFine (verdict (c .before .before .before .read-line .result) (l .n)) ≡ false = ap isFine (sym v) ∙ sym (c .before .is-fine .ensures) ∙ not-true _ (c .if1 .taken) in
-    going-stop (now (c .before .before .before .before .before .before .before .before .before .before .args .text)) (l .steps) (l .from) (l .k) (l .n) (l .inv) (c .before .before .before .before .before .line-end .result) (c .before .before .before .before .before .line-end .ensures) (c .before .before .before .read-line .result) line bad room ∙ ap (λ (x : Verdict). Stopped x (l .k)) (sym v))
+    going-stop (now (c .before .before .before .before .before .before .before .before .before .before .before .args .text)) (l .steps) (l .from) (l .k) (l .n) (l .inv) (c .before .before .before .before .before .line-end .result) (c .before .before .before .before .before .line-end .ensures) (c .before .before .before .read-line .result) line bad room ∙ ap (λ (x : Verdict). Stopped x (l .k)) (sym v))
     (λ c κs. let l = c .before .before .before .before .before .before .before .before .loop in
     let fine : isFine (verdict (c .before .before .before .before .read-line .result) (l .n)) ≡ true = ap isFine (sym (c .before .before .before .judge .ensures)) ∙ sym (c .before .before .is-fine .ensures) ∙ not-false _ (c .before .if1 .left) in
-    going-room (now (c .before .before .before .before .before .before .before .before .before .before .before .args .text)) (l .steps) (l .from) (l .k) (l .n) (l .inv) (c .before .before .before .before .before .before .line-end .result) (c .before .before .before .before .before .before .line-end .ensures) (c .before .before .before .before .read-line .result) (c .before .before .before .before .read-line .ensures) fine)
+    going-room (now (c .before .before .before .before .before .before .before .before .before .before .before .before .args .text)) (l .steps) (l .from) (l .k) (l .n) (l .inv) (c .before .before .before .before .before .before .line-end .result) (c .before .before .before .before .before .before .line-end .ensures) (c .before .before .before .before .read-line .result) (c .before .before .before .before .read-line .ensures) fine)
     (λ c. omega (arith, c .before .before .before .before .before .before .before .before .before .before .before .loop .inv .counted, c .before .before .before .before .before .before .before .before .before .before .before .loop .inv .within))
     (λ c. omega (arith, c .before .before .before .before .before .before .before .before .before .line-end .ensures .within))
     (λ c. omega (arith, c .before .before .before .before .before .before .before .before .before .line-end .ensures .after, c .before .before .before .before .before .before .before .before .before .line-end .ensures .within))
     (λ c. let l = c .before .before .before .before .before .before .before .before .before .before .before .loop in
     let fine : isFine (verdict (c .before .before .before .before .before .before .before .read-line .result) (l .n)) ≡ true = ap isFine (sym (c .before .before .before .before .before .before .judge .ensures)) ∙ sym (c .before .before .before .before .before .is-fine .ensures) ∙ not-false _ (c .before .before .before .before .if1 .left) in
-    going-on (now (c .before .before .before .before .before .before .before .before .before .before .before .before .before .before .args .text)) (l .steps) (l .from) (l .k) (l .n) (l .inv) (c .before .before .before .before .before .before .before .before .before .line-end .result) (c .before .before .before .before .before .before .before .before .before .line-end .ensures) (c .before .before .before .before .before .before .before .read-line .result) (c .before .before .before .before .before .before .before .read-line .ensures) fine (c .before .before .keep .ensures))
-    (λ c. c .before .loop .inv .size ∙ sym (c .before .before .before .before .pre))
-    (λ c. let l = c .before .loop in going-end (now (c .before .before .before .before .args .text)) (l .steps) (l .from) (l .k) (l .n) (l .inv) (omega arith)))
+    going-on (now (c .before .before .before .before .before .before .before .before .before .before .before .before .before .before .before .args .text)) (l .steps) (l .from) (l .k) (l .n) (l .inv) (c .before .before .before .before .before .before .before .before .before .line-end .result) (c .before .before .before .before .before .before .before .before .before .line-end .ensures) (c .before .before .before .before .before .before .before .read-line .result) (c .before .before .before .before .before .before .before .read-line .ensures) fine (c .before .before .keep .ensures))
+    (λ c. c .before .loop .inv .size ∙ sym (c .before .before .before .before .before .pre))
+    (λ c. let l = c .before .loop in going-end (now (c .before .before .before .before .before .args .text)) (l .steps) (l .from) (l .k) (l .n) (l .inv) (omega arith)))

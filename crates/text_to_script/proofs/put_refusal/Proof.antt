@@ -2,9 +2,10 @@
 use native.Mathlib.Omega.{arith}
 use denote.Ref.{now}
 use borrow.Author.Needs.{needs}
-use Rattle.text.specs.Refused.{refused}
-use Rattle.text.proofs.Adding.{refused-most, added-fits, then-in}
-use Rattle.text_to_script.specs.Complaint.{program}
+use Rattle.text.specs.Ascii.{ascii}
+use Rattle.text_refusals.specs.Complaint.{reason}
+use Rattle.text_refusals.proofs.Lengths.{reason-most}
+use Rattle.text.proofs.Adding.{added-fits, then-in}
 use Rattle.text_to_script.proofs.put_refusal.Statement.{statement}
 use Rattle.text_to_script.proofs.put_refusal.Tie as tie
 
@@ -17,5 +18,5 @@ put-refusal-spec =
     (λ c κs. search needs)
     (λ c. search needs)
     (λ c. let a = c .before .before .before .before .before .before .before .before .before .before .args in
-    let w = added-fits (now (a .out)) (a .at) program (omega (arith, c .before .before .before .before .before .before .before .before .before .before .pre)) (c .before .before .before .before .before .before .add .ensures .0) (c .before .before .before .before .before .before .add .ensures .1) in
-    then-in 29 (refused (a .number)) (refused-most (a .number)) w (omega (arith, w .next, c .before .before .before .before .before .before .before .before .before .before .pre)) (c .before .before .add-refused .ensures .0) (c .before .before .add-refused .ensures .1)))
+    let w = added-fits (now (a .out)) (a .at) (ascii "compose: ") (omega (arith, c .before .before .before .before .before .before .before .before .before .before .pre)) (c .before .before .before .before .before .before .add .ensures .0) (c .before .before .before .before .before .before .add .ensures .1) in
+    then-in 91 (reason (a .number)) (reason-most (a .number)) w (omega (arith, w .next, c .before .before .before .before .before .before .before .before .before .before .pre)) (c .before .before .add-reason .ensures .0) (c .before .before .add-reason .ensures .1)))

@@ -1,7 +1,7 @@
 -- No word, no place for it, and a place.
 use borrow.Author.Needs.{needs}
 use borrow.Author.Tests.{le-leb, lt-leb, eq-eqb, ne-eqb}
-use Rattle.text_tokens.specs.Words.{ended}
+use Rattle.text_tokens.specs.Tokens.{ended}
 use Rattle.text_tokens.proofs.finish.Statement.{statement}
 use Rattle.text_tokens.proofs.finish.Tie as tie
 

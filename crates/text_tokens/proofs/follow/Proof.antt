@@ -1,7 +1,7 @@
 -- A blank, and a character of a word.
 use borrow.Author.Needs.{needs}
 use borrow.Author.Tests.{lt-ltb, le-ltb}
-use Rattle.text_tokens.specs.Words.{taken}
+use Rattle.text_tokens.specs.Tokens.{taken}
 use Rattle.text_tokens.proofs.follow.Statement.{statement}
 use Rattle.text_tokens.proofs.follow.Tie as tie
 

@@ -1,7 +1,7 @@
 -- A word that was too long, one that becomes so, and one more character.
 use borrow.Author.Needs.{needs}
 use borrow.Author.Tests.{le-leb, lt-leb, eq-eqb, ne-eqb}
-use Rattle.text_tokens.specs.Words.{grown}
+use Rattle.text_tokens.specs.Tokens.{grown}
 use Rattle.text_tokens.proofs.grow.Statement.{statement}
 use Rattle.text_tokens.proofs.grow.Tie as tie
 

@@ -16,4 +16,4 @@ request-in-spec =
     (λ c. rw (c .before .before .before .if1 .left, ← c .before .before .byte-at .ensures, ne-eqb _ _ (c .before .if2 .left), lt-ltb _ _ (c .if3 .taken)))
     (λ c κs. search needs)
     (λ c κs. search needs)
-    (λ c. rw (c .before .before .before .before .before .if1 .left, ← c .before .before .before .before .byte-at .ensures, ne-eqb _ _ (c .before .before .before .if2 .left), le-ltb _ _ (c .before .before .if3 .left), ← c .before .words-of .ensures) (c .request-of .ensures)))
+    (λ c. rw (c .before .before .before .before .before .if1 .left, ← c .before .before .before .before .byte-at .ensures, ne-eqb _ _ (c .before .before .before .if2 .left), le-ltb _ _ (c .before .before .if3 .left), ← c .before .tokens-of .ensures) (c .request-of .ensures)))

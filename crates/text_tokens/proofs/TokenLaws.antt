@@ -1,5 +1,6 @@
--- Laws of words: one character after another from a place on; a line that is taken in two parts; a word's number is its characters in
--- base 256 (`word-taken`), so that different words of up to eight characters have different numbers (`words-differ`).
+-- Laws of words: one character after another from a place on; a line that is taken in two parts; a blank at a line's end changes
+-- nothing (`blank-last`); a word's number is its characters in base 256 (`token-taken`), so that different words of up to eight
+-- characters have different numbers (`tokens-differ`).
 use Prim.Native.Nat.{ℕ, suc, _+_, _-_, _*_, _^_, _<_, _≤_}
 use native.Mathlib.Numerals.{add-one}
 use native.Mathlib.Nat.{pow-succ'}
@@ -8,21 +9,21 @@ use native.Mathlib.Decide.{ℕ-discrete, decLt}
 use mathlib.Core.Bool.{Bool, true, false, cond}
 use mathlib.Core.Path.{_≡_, refl, sym, ap, _∙_}
 use mathlib.Core.List.{List, [], _∷_, _++_}
-use lib.ListN.{length, getD, drop, drop-of-length-le}
+use lib.ListN.{length, getD, set, drop, drop-of-length-le}
 use lib.Seq.{drop-cons}
-use lib.Dec.{ltb, leb}
+use lib.Dec.{ltb, leb, eqb}
 use borrow.Author.Tests.{lt-ltb, le-ltb, lt-leb, leb-true, ltb-true, ltb-false, ne-eqb}
 use Rattle.lists.specs.Scan.{every}
 use Rattle.lists.proofs.Scan.{every-at}
-use Rattle.text_tokens.specs.Words.{capital, grown, taken, takenAll}
-use Rattle.text_tokens.specs.declared.Words.{Words}
+use Rattle.text_tokens.specs.Tokens.{blank, capital, grown, none, ended, taken, takenAll, tokensOf, packed}
+use Rattle.text_tokens.specs.declared.Tokens.{Tokens}
 
-pub taken-append : (s : Words) (x y : List ℕ) → takenAll s (x ++ y) ≡ takenAll (takenAll s x) y
+pub taken-append : (s : Tokens) (x y : List ℕ) → takenAll s (x ++ y) ≡ takenAll (takenAll s x) y
 unfolding takenAll
 taken-append s [] y = refl
 taken-append s (c ∷ cs) y = taken-append (taken s c) cs y
 
-module _ (s : Words) (l : List ℕ) (i : ℕ) where
+module _ (s : Tokens) (l : List ℕ) (i : ℕ) where
   pub taken-next : i < length l → takenAll (taken s (getD l i 0)) (drop (i + 1) l) ≡ takenAll s (drop i l)
   unfolding takenAll
   taken-next h = rw (add-one i, drop-cons l i 0 h)
@@ -30,6 +31,22 @@ module _ (s : Words) (l : List ℕ) (i : ℕ) where
   pub taken-end : length l ≤ i → takenAll s (drop i l) ≡ s
   unfolding takenAll
   taken-end h = rw (drop-of-length-le l {i = i} h)
+
+-- ---- a blank at the end
+ended-twice : (s : Tokens) → ended (ended s) ≡ ended s
+unfolding ended
+ended-twice s = go (eqb (s .begun) 0) refl (leb 13 (s .count))
+  where
+    go : (a : Bool) → eqb (s .begun) 0 ≡ a → (b : Bool)
+        → ended (cond a s (cond b (record { count = s .count; begun = 0; at = s .at }) (record { count = s .count + 1; begun = 0; at = set (s .at) (s .count) (s .begun) })))
+        ≡ cond a s (cond b (record { count = s .count; begun = 0; at = s .at }) (record { count = s .count + 1; begun = 0; at = set (s .at) (s .count) (s .begun) }))
+    go true e b = rw e
+    go false e true = refl
+    go false e false = refl
+
+pub blank-last : (line : List ℕ) (c : ℕ) → blank c ≡ true → tokensOf (line ++ (c ∷ [])) ≡ tokensOf line
+unfolding tokensOf takenAll taken
+blank-last line c h = ap ended (taken-append none line (c ∷ [])) ∙ rw h (ended-twice (takenAll none line))
 
 -- ---- a word's number
 -- a character of a word: a byte that is no blank and no small letter
@@ -55,12 +72,8 @@ abbrev pub Characters : List ℕ → Type 0
 Characters [] = Unit {0}
 Characters (c ∷ cs) = Character c × Characters cs
 
-abbrev pub packed : ℕ → List ℕ → ℕ
-packed w [] = w
-packed w (c ∷ cs) = packed (256 * w + c) cs
-
 -- a line that is being read, with so many words and the one that was begun
-abbrev pub reading : ℕ → ℕ → List ℕ → Words
+abbrev pub reading : ℕ → ℕ → List ℕ → Tokens
 reading n w a = record { count = n; begun = w; at = a }
 
 abbrev power-small : ℕ → Bool
@@ -76,15 +89,15 @@ module _ (n : ℕ) (a : List ℕ) where
   character w c h p q = rw (le-ltb c 0x21 (h .0), ne-eqb w 1 p, lt-leb 0x100000000000000 w q, h .2)
 
   -- k characters are below 256 ^ k
-  pub word-taken : (x : List ℕ) (w k : ℕ) (r : List ℕ) → Characters x → (w ≡ 1 → ⊥) → w < 256 ^ k → k + length x ≤ 8
+  pub token-taken : (x : List ℕ) (w k : ℕ) (r : List ℕ) → Characters x → (w ≡ 1 → ⊥) → w < 256 ^ k → k + length x ≤ 8
       → takenAll (reading n w a) (x ++ r) ≡ takenAll (reading n (packed w x) a) r
   unfolding takenAll
-  word-taken [] w k r h p q e = refl
-  word-taken (c ∷ cs) w k r h p q e =
+  token-taken [] w k r h p q e = refl
+  token-taken (c ∷ cs) w k r h p q e =
       let small : 256 ^ k ≤ 0x100000000000000 = leb-true (256 ^ k) 0x100000000000000 (every-at power-small 0 8 all-small k (omega arith) (omega arith)) in
       let more : 256 ^ suc k ≡ 256 * 256 ^ k = pow-succ' 256 k in
-      ap (λ (s : Words). takenAll s (cs ++ r)) (character w c (h .0) p (omega arith))
-      ∙ word-taken cs (256 * w + c) (suc k) r (h .1) (λ z. omega (arith, z, h .0 .0)) (omega (arith, h .0 .1)) (omega arith)
+      ap (λ (s : Tokens). takenAll s (cs ++ r)) (character w c (h .0) p (omega arith))
+      ∙ token-taken cs (256 * w + c) (suc k) r (h .1) (λ z. omega (arith, z, h .0 .0)) (omega (arith, h .0 .1)) (omega arith)
 
 -- ---- different words have different numbers
 packed-same : (x y : List ℕ) (v w : ℕ) → Characters x → Characters y → length x ≡ length y → packed v x ≡ packed w y → (v ≡ w) × (x ≡ y)
@@ -109,8 +122,8 @@ longer (c ∷ cs) y v h k l e = go (ℕ-discrete (length cs) (length y)) (longer
         omega (arith, h .0 .0)
     go (no s) rest = rest (omega arith) e
 
-pub words-differ : (x y : List ℕ) → Characters x → Characters y → packed 0 x ≡ packed 0 y → x ≡ y
-words-differ x y h k e = go (ℕ-discrete (length x) (length y)) (decLt (length y) (length x))
+pub tokens-differ : (x y : List ℕ) → Characters x → Characters y → packed 0 x ≡ packed 0 y → x ≡ y
+tokens-differ x y h k e = go (ℕ-discrete (length x) (length y)) (decLt (length y) (length x))
   where
     go : Dec (length x ≡ length y) → Dec (length y < length x) → x ≡ y
     go (yes s) d = packed-same x y 0 0 h k s e .1

@@ -5,11 +5,11 @@ use native.Mathlib.Omega.{arith}
 use borrow.Author.Needs.{needs}
 use denote.Ref.{now}
 use lib.ListN.{length, drop}
-use Rattle.text_tokens.specs.Words.{none, ended, takenAll, wordsOf}
-use Rattle.text_tokens.specs.declared.Words.{Words}
-use Rattle.text_tokens.proofs.WordLaws.{taken-next, taken-end}
-use Rattle.text_tokens.proofs.words_of.Statement.{statement}
-use Rattle.text_tokens.proofs.words_of.Tie as tie
+use Rattle.text_tokens.specs.Tokens.{none, ended, takenAll, tokensOf}
+use Rattle.text_tokens.specs.declared.Tokens.{Tokens}
+use Rattle.text_tokens.proofs.TokenLaws.{taken-next, taken-end}
+use Rattle.text_tokens.proofs.tokens_of.Statement.{statement}
+use Rattle.text_tokens.proofs.tokens_of.Tie as tie
 
 abbrev Inv-loop : tie.InvT-loop
 Inv-loop line s₀ i₀ s i = (takenAll s (drop i line) ≡ takenAll none line) × (i ≤ length line)
@@ -17,9 +17,9 @@ Inv-loop line s₀ i₀ s i = (takenAll s (drop i line) ≡ takenAll none line) 
 abbrev μ-loop : tie.MeasureT-loop
 μ-loop line s₀ i₀ s i = length line - i
 
-pub words-of-spec : {M : Type 1} → statement M
-unfolding wordsOf
-words-of-spec =
+pub tokens-of-spec : {M : Type 1} → statement M
+unfolding tokensOf
+tokens-of-spec =
     tie.close
     (tie.spec
     Inv-loop
@@ -31,7 +31,7 @@ words-of-spec =
     (λ c. omega arith)
     (λ c. let l = c .before .before .before in
     let a = l .before .before .args in (
-      ap (λ (s : Words). takenAll s (drop (l .loop .i + 1) (now (a .line)))) (c .follow .ensures) ∙ taken-next _ (now (a .line)) (l .loop .i) (omega arith) ∙ l .loop .inv .0,
+      ap (λ (s : Tokens). takenAll s (drop (l .loop .i + 1) (now (a .line)))) (c .follow .ensures) ∙ taken-next _ (now (a .line)) (l .loop .i) (omega arith) ∙ l .loop .inv .0,
       omega arith,
     ))
     (λ c κs. search needs)
