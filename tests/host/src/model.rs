@@ -1,17 +1,10 @@
-//! The chip, written from documents 01 and 02 (P1, P2) and from nothing else of this repository but the rows of registers, which are read
-//! from the definitions' text (crates/chip_registers/specs): they are data, and have no second source here. The attribute registers' rows
-//! are written here, with the figures of the same one reading of chapter 12: a slip of the pen is found, another reading is not.
+//! The chip, written from documents 01 and 02 (P1, P2) and from nothing else of this repository but the independent reading of
+//! the databook, tests/registers.csv, from which the rows of registers are taken.
 
 use std::collections::HashMap;
 
-pub const GROUPS: [(&str, &str); 6] = [
-    ("CR", include_str!("../../../crates/chip_registers/specs/CrtController.antt")),
-    ("SR", include_str!("../../../crates/chip_registers/specs/Sequencer.antt")),
-    ("GR", include_str!("../../../crates/chip_registers/specs/Graphics.antt")),
-    ("XR", include_str!("../../../crates/chip_registers/specs/Extension.antt")),
-    ("FR", include_str!("../../../crates/chip_registers/specs/FlatPanel.antt")),
-    ("MR", include_str!("../../../crates/chip_registers/specs/Multimedia.antt")),
-];
+const READING: &str = include_str!("../../registers.csv");
+const GROUPS: [&str; 9] = ["CR", "SR", "GR", "XR", "FR", "MR", "MSR", "PALMASK", "AR"];
 
 /// Writable bits and reset byte of a register, by group number and index; and of each group the indexes whose register has a writable
 /// bit, and those that are listed and have none.
@@ -21,26 +14,20 @@ pub struct Rows {
     read_only: Vec<Vec<u8>>,
 }
 
-fn hex(word: &str) -> u8 {
-    u8::from_str_radix(word.strip_prefix("0x").unwrap(), 16).unwrap()
-}
-
 impl Rows {
     pub fn read() -> Rows {
+        let hex = |word: &str| u8::from_str_radix(word, 16).unwrap();
         let mut rows = HashMap::new();
-        for (g, (_, text)) in GROUPS.iter().enumerate() {
-            for line in text.lines().filter(|l| l.contains("reg 0x")) {
-                let quoted: Vec<&str> = line.split('"').collect();
-                let index = hex(quoted[0].split_whitespace().last().unwrap());
-                let rest: Vec<&str> = quoted[2].split_whitespace().collect();
-                rows.insert((g, index), (hex(rest[0]), hex(rest[1])));
-            }
+        for line in READING.lines().filter(|l| !l.is_empty() && !l.starts_with('#') && !l.starts_with("group,")) {
+            let words: Vec<&str> = line.split(',').collect();
+            let g = GROUPS.iter().position(|name| *name == words[0]).unwrap();
+            // the bytes that a reset takes from pins are made in `reset`
+            let reset = if ["CFG1<<1", "PIN0|01", "PIN1"].contains(&words[3]) { 0 } else { hex(words[3]) };
+            rows.insert((g, hex(words[1])), (hex(words[2]), reset));
         }
         assert!(rows.len() > 200, "only {} rows of registers were found", rows.len());
-        // chapter 12 gives no reset, so it is 00h
-        rows.extend((0x00..=0x0F).map(|i| ((AR, i), (0x3F, 0))));
-        rows.extend([(0x10, 0xEF), (0x11, 0xFF), (0x12, 0x3F), (0x13, 0x0F), (0x14, 0x0F)].map(|(i, mask)| ((AR, i), (mask, 0))));
-        rows.extend([((MSR, 0), (0xEF, 0)), ((PALMASK, 0), (0xFF, 0))]);
+        // decided otherwise than it is read: docs/DATABOOK.md
+        rows.insert((FR, 0x25), (0xFF, 0));
         let listed = |g: usize, live: bool| (0..=255).filter(|&i| rows.get(&(g, i)).is_some_and(|r| (r.0 != 0) == live)).collect();
         let live = (0..=AR).map(|g| listed(g, true)).collect();
         let read_only = (0..=AR).map(|g| listed(g, false)).collect();
@@ -84,6 +71,7 @@ pub struct Chip {
 
 const CR: usize = 0;
 const XR: usize = 3;
+const FR: usize = 4;
 const MSR: usize = 6;
 const PALMASK: usize = 7;
 const AR: usize = 8;
