@@ -1,6 +1,6 @@
 -- Bytes put one behind the other: where there is room, `withAddedIn` and `behindIn` are `Added`; nothing added changes nothing,
 -- the length stays, and bytes added behind others are both of them added at once.
-use Prim.Native.Nat.{ℕ, _+_, _≤_, _<_}
+use Prim.Native.Nat.{ℕ, _+_, _-_, _≤_, _<_}
 use native.Mathlib.Omega.{arith}
 use native.Mathlib.Numerals.{add-one}
 use mathlib.Core.Bool.{Bool, true, false, cond}
@@ -9,7 +9,7 @@ use mathlib.Core.List.{List, [], _++_}
 use lib.Dec.{leb}
 use lib.ListN.{length, getD, set, length-append}
 use lib.Seq.{paste, paste-suc}
-use borrow.Author.Tests.{le-leb, lt-leb, leb-true}
+use borrow.Author.Tests.{le-leb, lt-leb, leb-true, leb-false}
 use Rattle.lists.proofs.Put.{put-nil, put-then, length-put, paste-put}
 use Rattle.text.specs.Digits.{decimal}
 use Rattle.text.specs.Refused.{refused, placed}
@@ -17,6 +17,18 @@ use Rattle.text.proofs.DigitLaws.{decimal-most}
 use Rattle.text.specs.Adding.{withAddedIn, behindIn, withAdded, behind, Added}
 
 -- ---- room
+-- what the answer to "is there room" says of numbers
+pub room-told : (b : Bool) (m n : ℕ) → b ≡ leb m n → (b ≡ true → m ≤ n) × (b ≡ false → n < m)
+room-told b m n e = (λ t. leb-true m n (sym e ∙ t), λ f. leb-false m n (sym e ∙ f))
+
+-- what is left of a size behind the bytes
+pub room-left : (size at first more : ℕ) → first ≤ size → more ≤ size - first → leb at (size - first - more) ≡ leb (at + (first + more)) size
+room-left size at first more h k = go (leb at (size - first - more)) refl
+  where
+    go : (b : Bool) → leb at (size - first - more) ≡ b → b ≡ leb (at + (first + more)) size
+    go true e = let w : at ≤ size - first - more = leb-true _ _ e in sym (le-leb (at + (first + more)) size (omega arith))
+    go false e = let w : size - first - more < at = leb-false _ _ e in sym (lt-leb (at + (first + more)) size (omega arith))
+
 module _ (room : ℕ) (o : List ℕ) (at : ℕ) (x : List ℕ) where
   pub added-in : at + room ≤ length o → {o₁ : List ℕ} {r : ℕ} → r ≡ behindIn room o at x → o₁ ≡ withAddedIn room o at x → Added o at x o₁ r
   unfolding withAddedIn behindIn

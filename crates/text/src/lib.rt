@@ -1,7 +1,9 @@
 // Text that a program prints, as bytes in ASCII: capital hexadecimal digits, numbers in decimal, and bytes put one behind the other into a lent
 // output. The definitions are specs/Digits, specs/Refused and specs/Adding.
 ghost use mathlib.Core.Path.{_≡_};
-ghost use Prim.Native.Nat.{_+_, _≤_};
+ghost use Prim.Native.Nat.{_+_, _≤_, _<_};
+ghost use mathlib.Core.Bool.{true, false};
+ghost use lib.Dec.{leb};
 ghost use lib.ListN.{length};
 ghost use Rattle.text.specs.Digits.{lastDigit, decimalIn, decimal};
 ghost use Rattle.text.specs.Refused.{refused, placed};
@@ -13,6 +15,20 @@ pub fn digit(n: u16) -> u8
 {
     let d = (n % 16) as u8;
     if d < 10 { 0x30 + d } else { 0x37 + d }
+}
+
+// Whether so many bytes, and so many more, have room in an output of this size from a place on.
+pub fn has_room(size: usize, at: usize, first: usize, more: usize) -> bool
+    ensures { λ r. ⌜ r ≡ leb (at + (first + more)) size ⌝ }
+    ensures { λ r. ⌜ (r ≡ true → at + (first + more) ≤ size) × (r ≡ false → size < at + (first + more)) ⌝ }
+{
+    if size < first {
+        return false;
+    }
+    if size - first < more {
+        return false;
+    }
+    at <= size - first - more
 }
 
 // Bytes behind those that stand in an output with room for them; where the next one goes.
@@ -33,13 +49,10 @@ pub fn add(out: &mut [u8], at: usize, bytes: &[u8]) -> usize
     ensures { λ r. ⌜ r ≡ behind (now (out .entry)) at (now (bytes .entry)) ⌝ }
     ensures { λ r. ⌜ now (out .exit) ≡ withAdded (now (out .entry)) at (now (bytes .entry)) ⌝ }
 {
-    if out.len() < at {
-        return at;
+    if has_room(out.len(), at, bytes.len(), 0) {
+        return copy(out, at, bytes);
     }
-    if out.len() - at < bytes.len() {
-        return at;
-    }
-    copy(out, at, bytes)
+    at
 }
 
 // A number in decimal, in at most so many places, behind what stands in an output with room for so many.
@@ -62,13 +75,10 @@ pub fn add_decimal(out: &mut [u8], at: usize, n: usize) -> usize
     ensures { λ r. ⌜ r ≡ behindIn 20 (now (out .entry)) at (decimal n) ⌝ }
     ensures { λ r. ⌜ now (out .exit) ≡ withAddedIn 20 (now (out .entry)) at (decimal n) ⌝ }
 {
-    if out.len() < 20 {
-        return at;
+    if has_room(out.len(), at, 20, 0) {
+        return put_decimal(out, at, n, 20);
     }
-    if out.len() - 20 < at {
-        return at;
-    }
-    put_decimal(out, at, n, 20)
+    at
 }
 
 // The line of a refusal, behind what stands in an output with room for it.
@@ -86,13 +96,10 @@ pub fn add_refused(out: &mut [u8], at: usize, number: usize) -> usize
     ensures { λ r. ⌜ r ≡ behindIn 29 (now (out .entry)) at (refused number) ⌝ }
     ensures { λ r. ⌜ now (out .exit) ≡ withAddedIn 29 (now (out .entry)) at (refused number) ⌝ }
 {
-    if out.len() < 29 {
-        return at;
+    if has_room(out.len(), at, 29, 0) {
+        return put_refused(out, at, number);
     }
-    if out.len() - 29 < at {
-        return at;
-    }
-    put_refused(out, at, number)
+    at
 }
 
 // A place, behind what stands in an output with room for it.
@@ -110,14 +117,8 @@ pub fn add_place(out: &mut [u8], at: usize, word: &[u8], k: usize) -> usize
     ensures { λ r. ⌜ r ≡ behindIn (length (now (word .entry)) + 22) (now (out .entry)) at (placed (now (word .entry)) k) ⌝ }
     ensures { λ r. ⌜ now (out .exit) ≡ withAddedIn (length (now (word .entry)) + 22) (now (out .entry)) at (placed (now (word .entry)) k) ⌝ }
 {
-    if out.len() < 22 {
-        return at;
+    if has_room(out.len(), at, word.len(), 22) {
+        return put_place(out, at, word, k);
     }
-    if out.len() - 22 < word.len() {
-        return at;
-    }
-    if out.len() - 22 - word.len() < at {
-        return at;
-    }
-    put_place(out, at, word, k)
+    at
 }

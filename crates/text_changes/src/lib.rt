@@ -192,11 +192,8 @@ pub fn tell_changes(before: Chip, after: Chip, out: &mut [u8], at: usize) -> usi
     ensures { λ r. ⌜ r ≡ behindIn 38400 (now (out .entry)) at (changed (named before) (named after)) ⌝ }
     ensures { λ r. ⌜ now (out .exit) ≡ withAddedIn 38400 (now (out .entry)) at (changed (named before) (named after)) ⌝ }
 {
-    if out.len() < 38400 {
-        return at;
+    if text::has_room(out.len(), at, 38400, 0) {
+        return put_changes(before, after, out, at);
     }
-    if out.len() - 38400 < at {
-        return at;
-    }
-    put_changes(before, after, out, at)
+    at
 }

@@ -63,13 +63,10 @@ pub fn add_reason(out: &mut [u8], at: usize, n: u8) -> usize
     ensures { λ r. ⌜ r ≡ behindIn 91 (now (out .entry)) at (reason n) ⌝ }
     ensures { λ r. ⌜ now (out .exit) ≡ withAddedIn 91 (now (out .entry)) at (reason n) ⌝ }
 {
-    if out.len() < 91 {
-        return at;
+    if text::has_room(out.len(), at, 91, 0) {
+        return put_reason(out, at, n);
     }
-    if out.len() - 91 < at {
-        return at;
-    }
-    put_reason(out, at, n)
+    at
 }
 
 // Where a file is not right.
@@ -102,14 +99,8 @@ pub fn complain(out: &mut [u8], at: usize, name: &[u8], r: Refusal) -> usize
     ensures { λ e. ⌜ e ≡ behindIn (length (now (name .entry)) + 128) (now (out .entry)) at (complaint (now (name .entry)) r) ⌝ }
     ensures { λ e. ⌜ now (out .exit) ≡ withAddedIn (length (now (name .entry)) + 128) (now (out .entry)) at (complaint (now (name .entry)) r) ⌝ }
 {
-    if out.len() < 128 {
-        return at;
+    if text::has_room(out.len(), at, name.len(), 128) {
+        return put_complaint(out, at, name, r);
     }
-    if out.len() - 128 < name.len() {
-        return at;
-    }
-    if out.len() - 128 - name.len() < at {
-        return at;
-    }
-    put_complaint(out, at, name, r)
+    at
 }

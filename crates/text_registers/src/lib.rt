@@ -153,11 +153,8 @@ pub fn dump(chip: Chip, out: &mut [u8], at: usize) -> usize
     ensures { λ r. ⌜ r ≡ behindIn 8192 (now (out .entry)) at (dumped (named chip)) ⌝ }
     ensures { λ r. ⌜ now (out .exit) ≡ withAddedIn 8192 (now (out .entry)) at (dumped (named chip)) ⌝ }
 {
-    if out.len() < at {
-        return at;
+    if text::has_room(out.len(), at, 8192, 0) {
+        return add_paragraphs(chip, out, at);
     }
-    if out.len() - at < 8192 {
-        return at;
-    }
-    add_paragraphs(chip, out, at)
+    at
 }

@@ -270,19 +270,24 @@ fn put_step(out: &mut [u8], at: usize, step: Step) -> usize
     }
 }
 
+// The line of a step, behind what stands in an output with room for the longest.
+fn put_line(out: &mut [u8], at: usize, step: Step) -> usize
+    requires { ⌜ at + 20 ≤ length (now out) ⌝ }
+    ensures { λ r. ⌜ Added (now (out .entry)) at (stepLine step) (now (out .exit)) r ⌝ }
+{
+    let end = put_step(out, at, step);
+    put(out, end, b"\n")
+}
+
 // A step's line behind what stands in an output that has room for the longest line, 20 bytes; where the next line goes.
 pub fn add_step(out: &mut [u8], at: usize, step: Step) -> usize
     ensures { λ r. ⌜ r ≡ behindIn 20 (now (out .entry)) at (stepLine step) ⌝ }
     ensures { λ r. ⌜ now (out .exit) ≡ withAddedIn 20 (now (out .entry)) at (stepLine step) ⌝ }
 {
-    if out.len() < 20 {
-        return at;
+    if text::has_room(out.len(), at, 20, 0) {
+        return put_line(out, at, step);
     }
-    if out.len() - 20 < at {
-        return at;
-    }
-    let end = put_step(out, at, step);
-    put(out, end, b"\n")
+    at
 }
 
 // A register's name behind what stands in an output that has room for the longest, 7 bytes; where the next byte goes.
@@ -290,11 +295,8 @@ pub fn add_name(out: &mut [u8], at: usize, group: u8, index: u8) -> usize
     ensures { λ r. ⌜ r ≡ behindIn 7 (now (out .entry)) at (nameText group index) ⌝ }
     ensures { λ r. ⌜ now (out .exit) ≡ withAddedIn 7 (now (out .entry)) at (nameText group index) ⌝ }
 {
-    if out.len() < 7 {
-        return at;
+    if text::has_room(out.len(), at, 7, 0) {
+        return put_name(out, at, group, index);
     }
-    if out.len() - 7 < at {
-        return at;
-    }
-    put_name(out, at, group, index)
+    at
 }

@@ -254,11 +254,8 @@ pub fn complain(c: Composed, out: &mut [u8], at: usize) -> usize
     ensures { λ r. ⌜ r ≡ behindIn 128 (now (out .entry)) at (complaint c) ⌝ }
     ensures { λ r. ⌜ now (out .exit) ≡ withAddedIn 128 (now (out .entry)) at (complaint c) ⌝ }
 {
-    if out.len() < 128 {
-        return at;
+    if text::has_room(out.len(), at, 128, 0) {
+        return put_complaint(out, at, c);
     }
-    if out.len() - 128 < at {
-        return at;
-    }
-    put_complaint(out, at, c)
+    at
 }

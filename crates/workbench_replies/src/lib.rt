@@ -107,11 +107,8 @@ pub fn print(chip: Chip, reply: Reply, out: &mut [u8], at: usize) -> usize
     ensures { λ r. ⌜ r ≡ behindIn 8192 (now (out .entry)) at (replyText (named chip) reply) ⌝ }
     ensures { λ r. ⌜ now (out .exit) ≡ withAddedIn 8192 (now (out .entry)) at (replyText (named chip) reply) ⌝ }
 {
-    if out.len() < at {
-        return at;
+    if text::has_room(out.len(), at, 8192, 0) {
+        return add_reply(chip, reply, out, at);
     }
-    if out.len() - at < 8192 {
-        return at;
-    }
-    add_reply(chip, reply, out, at)
+    at
 }

@@ -1,4 +1,4 @@
--- Too little room, and room for the longest.
+-- Room for the longest, and none.
 use borrow.Author.Needs.{needs}
 use native.Mathlib.Omega.{arith}
 use Prim.Native.Nat.{_+_}
@@ -13,12 +13,8 @@ pub complain-spec : {M : Type 1} → statement M
 complain-spec =
     tie.close
     (tie.spec
-    (λ c. let a = c .before .before .before .args in none-in (length (now (a .name)) + 128) (now (a .out)) (a .at) (complaint (now (a .name)) (a .r)) (omega arith))
+    (λ c κs. search needs)
+    (λ c κs. omega (arith, c .before .before .has-room .ensures .1 .0 (c .before .if1 .taken)))
     (λ c. search needs)
-    (λ c. let a = c .before .before .before .before .args in none-in (length (now (a .name)) + 128) (now (a .out)) (a .at) (complaint (now (a .name)) (a .r)) (omega arith))
-    (λ c. search needs)
-    (λ c. search needs)
-    (λ c. let a = c .before .before .before .before .before .args in none-in (length (now (a .name)) + 128) (now (a .out)) (a .at) (complaint (now (a .name)) (a .r)) (omega arith))
-    (λ c κs. omega (arith, c .before .if3 .left, c .before .before .if2 .left, c .before .before .before .if1 .left))
-    (λ c. search needs)
-    (λ c. let a = c .before .before .before .before .before .before .before .before .before .args in in-added (length (now (a .name)) + 128) (now (a .out)) (a .at) (complaint (now (a .name)) (a .r)) (omega (arith, c .before .before .before .before .if3 .left, c .before .before .before .before .before .if2 .left, c .before .before .before .before .before .before .if1 .left)) (c .before .before .put-complaint .ensures)))
+    (λ c. let a = c .before .before .before .before .before .before .before .before .args in in-added (length (now (a .name)) + 128) (now (a .out)) (a .at) (complaint (now (a .name)) (a .r)) (omega (arith, c .before .before .before .before .before .has-room .ensures .1 .0 (c .before .before .before .before .if1 .taken))) (c .before .before .put-complaint .ensures))
+    (λ c. let a = c .before .before .before .before .args in none-in (length (now (a .name)) + 128) (now (a .out)) (a .at) (complaint (now (a .name)) (a .r)) (omega (arith, c .before .has-room .ensures .1 .1 (c .if1 .left)))))

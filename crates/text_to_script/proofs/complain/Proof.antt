@@ -1,4 +1,4 @@
--- No room, and room for the longest.
+-- Room for the longest, and none.
 use native.Mathlib.Omega.{arith}
 use denote.Ref.{now}
 use borrow.Author.Needs.{needs}
@@ -11,9 +11,8 @@ pub complain-spec : {M : Type 1} → statement M
 complain-spec =
     tie.close
     (tie.spec
-    (λ c. let a = c .before .before .args in none-in 128 (now (a .out)) (a .at) (complaint (a .c)) (omega arith))
-    (λ c. search needs)
-    (λ c. let a = c .before .before .before .args in none-in 128 (now (a .out)) (a .at) (complaint (a .c)) (omega arith))
     (λ c κs. search needs)
+    (λ c κs. omega (arith, c .before .before .has-room .ensures .1 .0 (c .before .if1 .taken)))
     (λ c. search needs)
-    (λ c. let a = c .before .before .before .before .before .before .before .args in in-added 128 (now (a .out)) (a .at) (complaint (a .c)) (omega arith) (c .before .before .put-complaint .ensures)))
+    (λ c. let a = c .before .before .before .before .before .before .before .args in in-added 128 (now (a .out)) (a .at) (complaint (a .c)) (omega (arith, c .before .before .before .before .before .has-room .ensures .1 .0 (c .before .before .before .before .if1 .taken))) (c .before .before .put-complaint .ensures))
+    (λ c. let a = c .before .before .before .args in none-in 128 (now (a .out)) (a .at) (complaint (a .c)) (omega (arith, c .before .has-room .ensures .1 .1 (c .if1 .left)))))
