@@ -1,5 +1,5 @@
--- What a case of a table of set-ups can say, and when it holds, over the definitions that the contracts cite. The tables are Starred,
--- document 01's, and in crate cases_requests those of document 02's requests.
+-- What a case of a table of set-ups can say, and when it holds, over the definitions that the contracts cite. The tables are
+-- Starred, document 01's, and in crate cases_requests those of document 02's requests.
 use Prim.Native.Nat.{ℕ, _-_}
 use mathlib.Core.Bool.{Bool, true, false, _&&_}
 use mathlib.Core.List.{List, [], _∷_, _++_}

@@ -1,5 +1,6 @@
--- The witnesses of must-fail edits, computed: for an edit of a rule of the chip, the steps or memory the input that its file names, with
--- what the right version gives; the edited text gives something else there. A row has the edit's name above it, as CRATE/EDIT.
+-- The witnesses of must-fail edits, computed: for an edit of a rule of the chip, the steps or memory the input that its file
+-- names, with what the right version gives; the edited text gives something else there. A row has the edit's name above it, as
+-- CRATE/EDIT.
 use mathlib.Core.Bool.{false}
 use mathlib.Core.List.{List, [], _∷_}
 use Rattle.chip_registers.specs.declared.Group.the-variants.{Xr}

@@ -1,4 +1,5 @@
--- What a line of the table of writable bits is: that of eight registers of a group, as crate `chip_registers` defines it, in one number.
+-- What a line of the table of writable bits is: that of eight registers of a group, as crate `chip_registers` defines it, in
+-- one number.
 use Prim.Native.Nat.{ℕ, zero, suc, _+_, _*_, _/_, _%_}
 use Rattle.chip_registers.specs.Groups.{tableAt, writableOf}
 use Rattle.chip_registers.specs.declared.Group.{Group}

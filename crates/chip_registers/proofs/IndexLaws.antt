@@ -1,5 +1,5 @@
--- The index registers. What is kept fits, what fits is kept as it is, and so what was kept once is kept; bit for bit, the low bits stay
--- and the others are 0. No register is out of reach: an index that does not fit its group is not listed.
+-- The index registers. What is kept fits, what fits is kept as it is, and so what was kept once is kept; bit for bit, the low
+-- bits stay and the others are 0. No register is out of reach: an index that does not fit its group is not listed.
 use Prim.Native.Nat.{ℕ, suc, _+_, _-_, _/_, _%_, _^_, _≤_, _<_}
 use native.Mathlib.Omega.{arith}
 use native.Mathlib.Nat.{mod-lt, mod-eq-of-lt, div-eq-of-lt}

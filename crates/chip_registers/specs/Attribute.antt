@@ -1,5 +1,5 @@
--- Chapter 12 of the databook, attribute controller registers: the 21 that its list has, in the order of their indexes. Document 02, P1.
--- A row is index, title, writable bits, reset byte. The chapter gives no reset, so it is 00h (HOUSE).
+-- Chapter 12 of the databook, attribute controller registers: the 21 that its list has, in the order of their indexes. Document
+-- 02, P1. A row is index, title, writable bits, reset byte. The chapter gives no reset, so it is 00h (HOUSE).
 use mathlib.Core.List.{List, [], _∷_}
 use Rattle.chip_registers.specs.Rows.{Register, reg}
 

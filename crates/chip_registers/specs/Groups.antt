@@ -1,5 +1,5 @@
--- The groups and the row of each register. Document 01, "Ports" (the numbers of the groups) and "Registers"; AR is document 02's, P1.
--- MSR is chapter 8's, PALMASK chapter 13's: one register each, at whatever index.
+-- The groups and the row of each register. Document 01, "Ports" (the numbers of the groups) and "Registers"; AR is document
+-- 02's, P1. MSR is chapter 8's, PALMASK chapter 13's: one register each, at whatever index.
 use Prim.Native.Nat.{ℕ}
 use mathlib.Core.Bool.{Bool, true, false, cond}
 use lib.Dec.{eqb}
@@ -34,8 +34,8 @@ groupAt k =
     cond (eqb k 0) Cr (cond (eqb k 1) Sr (cond (eqb k 2) Gr (cond (eqb k 3) Xr
     (cond (eqb k 4) Fr (cond (eqb k 5) Mr (cond (eqb k 6) Msr (cond (eqb k 7) Palmask Ar)))))))
 
--- the groups whose registers stand in tables of 256: those that have an index, in the order of their numbers, as tables 0 to 6. A number
--- above 6 is PALMASK's, which is one register at whatever index
+-- the groups whose registers stand in tables of 256: those that have an index, in the order of their numbers, as tables 0 to 6.
+-- A number above 6 is PALMASK's, which is one register at whatever index
 unfoldable pub tableAt : ℕ → Group
 tableAt k =
     cond (eqb k 0) Cr (cond (eqb k 1) Sr (cond (eqb k 2) Gr (cond (eqb k 3) Xr

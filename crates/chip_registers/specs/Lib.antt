@@ -1,5 +1,5 @@
--- What has to be believed of the registers: the tables, a chapter a file, with Rows and Groups, the index registers (Indexes), and the
--- write rule (WriteRule).
+-- What has to be believed of the registers: the tables, a chapter a file, with Rows and Groups, the index registers (Indexes),
+-- and the write rule (WriteRule).
 pub mod Rows
 pub mod CrtController
 pub mod Sequencer

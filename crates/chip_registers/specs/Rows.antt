@@ -9,8 +9,8 @@ use Rattle.chip_registers.specs.declared.Row.{Row}
 use Rattle.chip_registers.specs.declared.Row.the-variants.{Listed, Unlisted}
 
 -- a register as its chapter lists it: the bits that can be written, and the byte after a reset. "A reset bit that 001 does not
--- give, marks x or takes from a pin is 0 (HOUSE)"; the pins that XR08, XR70 and XR71 show are crate `chip`'s. Bits that steer what
--- is not here are stored and do nothing, and status bits that would come from it read 0 (HOUSE)
+-- give, marks x or takes from a pin is 0 (HOUSE)"; the pins that XR08, XR70 and XR71 show are crate `chip`'s. Bits that steer
+-- what is not here are stored and do nothing, and status bits that would come from it read 0 (HOUSE)
 pub record Register : Type 0 where
   pub index : ℕ
   pub title : String

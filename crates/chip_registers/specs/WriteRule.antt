@@ -1,7 +1,7 @@
--- What a write makes of a register's byte. Document 01, "Registers": a data write changes the writable bits only, and
--- CR11 bit 7 = 1 stops writes to CR00 to CR07, but CR07 bit 4 can always be written. Chapter 12 of the databook, with document 02, P1:
--- bit 5 of the attribute index, which says that there is a picture, stops writes to AR00 to AR0F.
--- That bit for bit this is so is the law `bit-written`, in WriteLaws.
+-- What a write makes of a register's byte. Document 01, "Registers": a data write changes the writable bits only, and CR11 bit
+-- 7 = 1 stops writes to CR00 to CR07, but CR07 bit 4 can always be written. Chapter 12 of the databook, with document 02, P1:
+-- bit 5 of the attribute index, which says that there is a picture, stops writes to AR00 to AR0F. That bit for bit this is so
+-- is the law `bit-written`, in WriteLaws.
 use Prim.Native.Nat.{ℕ, _-_}
 use mathlib.Core.Bool.{Bool, false, cond}
 use lib.Dec.{eqb, ltb}
@@ -11,8 +11,8 @@ use Rattle.chip_registers.specs.Groups.{writableOf}
 use Rattle.chip_registers.specs.declared.Group.{Group}
 use Rattle.chip_registers.specs.declared.Group.the-variants.{Cr, Sr, Gr, Xr, Fr, Mr, Msr, Palmask, Ar}
 
--- whether a group's lock is on, by the byte of CR11 and by bit 5 of the attribute index: bit 7 of CR11 locks CR, the picture locks AR,
--- and no other group has a lock
+-- whether a group's lock is on, by the byte of CR11 and by bit 5 of the attribute index: bit 7 of CR11 locks CR, the picture
+-- locks AR, and no other group has a lock
 unfoldable pub lockedBy : Group → ℕ → Bool → Bool
 lockedBy Cr cr11 picture = isSet 7 cr11
 lockedBy Sr cr11 picture = false

@@ -1,5 +1,5 @@
--- A list by its elements, for everything that has a formula: the bytes of a block's places or of a file's steps, the registers of a
--- table, the colours of a palette. And a list of bytes. The length and the element at a place are laws of proofs/Tab.
+-- A list by its elements, for everything that has a formula: the bytes of a block's places or of a file's steps, the registers
+-- of a table, the colours of a palette. And a list of bytes. The length and the element at a place are laws of proofs/Tab.
 use Prim.Native.Nat.{ℕ, zero, suc, _<_}
 use mathlib.Core.List.{List, [], _∷_}
 use lib.ListN.{getD}

@@ -1,7 +1,8 @@
--- Every promise of the project, each with its statement as its type, proved by the theorem that it cites. In the order of document 01's
--- demands: numbers and refusals (1), the chip, memory and the round trips (2), scripts (3); then what each request of document 02 adds.
--- A statement is written out over the definitions of the crates' specs/, which is what has to be believed. The contracts of the functions
--- are equations with the same definitions; they are checked where the functions are. Assumes nothing.
+-- Every promise of the project, each with its statement as its type, proved by the theorem that it cites. In the order of
+-- document 01's demands: numbers and refusals (1), the chip, memory and the round trips (2), scripts (3); then what each
+-- request of document 02 adds. A statement is written out over the definitions of the crates' specs/, which is what has to be
+-- believed. The contracts of the functions are equations with the same definitions; they are checked where the functions are.
+-- Assumes nothing.
 use mathlib.Core.Path.{_≡_, sym, ap, _∙_}
 use mathlib.Core.Bool.{Bool, true, false, cond}
 use mathlib.Core.List.{List}
@@ -142,8 +143,8 @@ list-numbers = writing.written-number
 pub translation-numbers : (f : List ℕ) (room : ℕ) → ofTranslated (translated f room) ≡ translatedTable f room
 translation-numbers = translating.translated-number
 
--- A run: 10 for the length, before any runs; else the number of the command behind those carried out, 10 for no known form, else that of
--- its port access, 2 and then 1; else 0.
+-- A run: 10 for the length, before any runs; else the number of the command behind those carried out, 10 for no known form,
+-- else that of its port access, 2 and then 1; else 0.
 pub run-numbers : (c : Chip) (bytes : List ℕ) (limit : ℕ) → ofEnding (ran c bytes limit .ending) ≡ runTable c bytes limit
 run-numbers = run-number-laws.run-number
 
@@ -172,7 +173,8 @@ received-bits = name-laws.received-bit
 pub received-elsewhere : (g h : Group) (n : Named) (i v k : ℕ) → Different g i h k → register h (received g n i v) k ≡ register h n k
 received-elsewhere = name-laws.received-other
 
--- In every state that accesses reach from a reset, bits that are not writable keep the reset's value, and an unlisted index reads 00h.
+-- In every state that accesses reach from a reset, bits that are not writable keep the reset's value, and an unlisted index
+-- reads 00h.
 pub bits-fixed : {first second : ℕ} {c : Chip} → Reach first second c → (g : Group) (i k : ℕ) → i < 0x100 → k < 8 → bit k (writableOf g i) ≡ 0
     → bit k (register g (named c) i) ≡ bit k (resetByte first second g i)
 bits-fixed = reach-laws.fixed-bits
@@ -188,7 +190,8 @@ rows-printed = printed-rows.printed-rows
 pub ports-printed : (picks3Dx : Bool) → linesFrom picks3Dx 0x3B0 0x30 ≡ documented picks3Dx
 ports-printed = port-laws.ports-documented
 
--- A pixel shows the entry at the pixel AND PALMASK, in eight-bit mode as stored, in six-bit mode four times each component modulo 64.
+-- A pixel shows the entry at the pixel AND PALMASK, in eight-bit mode as stored, in six-bit mode four times each component
+-- modulo 64.
 pub pixel-shown : (n : Named) (p e : ℕ) → p < 0x100 → e < 0x100 → ((k : ℕ) → k < 8 → bit k e ≡ bit k p * bit k (register Palmask n 0x00))
     → (eightBit n ≡ true → shown n p ≡ entry n e)
     × (eightBit n ≡ false → shown n p ≡ rgb (4 * (entry n e .red % 64)) (4 * (entry n e .green % 64)) (4 * (entry n e .blue % 64)))
@@ -211,8 +214,8 @@ shown-composes-back f m bytes acc out h = let r = same-file-laws.same-file f m b
 
 -- ==== 3. A script does what it says, from any state that accesses reach from a reset with ports open
 
--- After the commands of the first n steps of an accepted file: all were carried out and none refused, everything that has a name is what
--- these steps say by name, and bit 5 of the attribute index is what it was.
+-- After the commands of the first n steps of an accepted file: all were carried out and none refused, everything that has a
+-- name is what these steps say by name, and bit 5 of the attribute index is what it was.
 pub demand-3 : (file : List ℕ) (m : ℕ) → checked file ≡ Accepted m → (first second : ℕ) → isSet 1 first ≡ true → (c : Chip) → Reach first second c
     → (n : ℕ) → n ≤ m
     → (ran c (bytesOfAll (commandsTo file m)) (begins file n) .count ≡ begins file n)
@@ -223,8 +226,9 @@ demand-3 file m acc first second strapped c reach n h =
     let r = scripts.demand-3 .holds file m acc first second strapped c reach n h in
     (r .count, r .unrefused, r .byName, r .picture)
 
--- It is not had by a reader that hands out nothing, nor by a check that accepts nothing: the first n steps of an accepted file are n, their
--- bytes are those at the file's places, and every list of 1 to 1,008 steps that pass is the list of an accepted file.
+-- It is not had by a reader that hands out nothing, nor by a check that accepts nothing: the first n steps of an accepted file
+-- are n, their bytes are those at the file's places, and every list of 1 to 1,008 steps that pass is the list of an accepted
+-- file.
 pub demand-3-counted : (f : List ℕ) (m : ℕ) → checked f ≡ Accepted m → (n : ℕ) → n ≤ m
     → (length (stepsTo f n) ≡ n) × (sixes (stepsTo f n) ≡ placesTo f n)
 demand-3-counted f m acc n h = (counted.steps-counted f m acc n h, counted.steps-stand f m acc n h)
@@ -233,7 +237,8 @@ pub demand-3-every-script : (ss : List Step) → 1 ≤ length ss → length ss �
     → (file : List ℕ) × (checked file ≡ Accepted (length ss)) × (stepsTo file (length ss) ≡ ss)
 demand-3-every-script ss some few pass = let r = script-laws.script-there ss some few pass in (r .file, r .accepted, r .steps)
 
--- The same on lent bytes, after each step, of any bytes that hold a chip whose ports are open: what `run` of `lent_run` answers, and leaves.
+-- The same on lent bytes, after each step, of any bytes that hold a chip whose ports are open: what `run` of `lent_run`
+-- answers, and leaves.
 pub demand-3-on-lent-bytes : (file : List ℕ) (m : ℕ) → checked file ≡ Accepted m → (l : List ℕ) → length l ≡ whole → portsOpen (named (view l)) ≡ true
     → (n : ℕ) → n ≤ m → (r : LentRan) (after : List ℕ) → r ≡ runAnswer l (bytesOfAll (commandsTo file m)) (begins file n)
     → Left l (ran (view l) (bytesOfAll (commandsTo file m)) (begins file n) .chip) (spare l) after
@@ -253,15 +258,15 @@ asked-cases = asked-laws.requests-hold
 
 -- ==== Document 02's requests
 
--- P1. An index and then a byte at 3C0h, from the index's turn, is a write by name under the picture that the index brings; a read of
--- input status 1 returns the turn.
+-- P1. An index and then a byte at 3C0h, from the index's turn, is a write by name under the picture that the index brings; a
+-- read of input status 1 returns the turn.
 pub P1-attribute-by-port : (c : Chip) → portsOpen (named c) ≡ true → (v b : ℕ) → c .indexes .turn ≡ false
     → portWritten (portWritten c 0x3C0 v .chip) 0x3C0 b
     ≡ wrote Done (join (received Ar (withPicture (named c) (isSet 5 v)) (v % 32) b) (withTurn (withIndex Ar (c .indexes) v) false) (c .loading))
 P1-attribute-by-port = attribute-laws.attribute-by-port
 
--- P2. A step is refused with 7 where it is not legal, else with 11 where its register has no writable bit, else it passes; a step refused
--- with 11 would have changed no register.
+-- P2. A step is refused with 7 where it is not legal, else with 11 where its register has no writable bit, else it passes; a
+-- step refused with 11 would have changed no register.
 pub P2-first-7 : (s : Step) → legal s ≡ false → judged s ≡ Refused Unallowed
 P2-first-7 = lawful.unallowed-first
 

@@ -9,7 +9,8 @@ use Rattle.script_commands.specs.declared.Command.the-variants.{Out, In,
 use Rattle.script_commands.specs.declared.CommandRead.{CommandRead}
 use Rattle.script_commands.specs.declared.CommandRead.the-variants.{Known, Unknown}
 
--- "1 OUT (port low, port high, value); 2 IN to the accumulator (port, 0); 3 MERGE (keep, set, 0); 4 OUT of the accumulator (port, 0)"
+-- "1 OUT (port low, port high, value); 2 IN to the accumulator (port, 0); 3 MERGE (keep, set, 0); 4 OUT of the accumulator
+-- (port, 0)"
 abbrev pub bytesOf : Command → List ℕ
 bytesOf (Out port value) = 1 ∷ port % 256 ∷ port / 256 ∷ value ∷ []
 bytesOf (In port) = 2 ∷ port % 256 ∷ port / 256 ∷ 0 ∷ []

@@ -1,6 +1,5 @@
--- A whole script file translated into its commands: document 01, "Commands" and "Numbers returned", 8, 6, 7 or, by document 02, P2, 11,
--- and 9 in that order.
--- Where a step's commands begin is how many commands the steps before it have.
+-- A whole script file translated into its commands: document 01, "Commands" and "Numbers returned", 8, 6, 7 or, by document 02,
+-- P2, 11, and 9 in that order. Where a step's commands begin is how many commands the steps before it have.
 use Prim.Native.Nat.{ℕ, zero, suc, _*_}
 use mathlib.Core.Bool.{cond}
 use mathlib.Core.List.{List, [], _∷_, _++_}

@@ -111,7 +111,8 @@ unlisted-unwritable g i e = rw e
 pub listed-unwritable : (group index w r : ℕ) → rowOf (groupAt group) index ≡ Listed w r → unwritable group index ≡ eqb w 0
 listed-unwritable g i w r e = rw e
 
--- an index that does not fit is not listed, so that P5 refuses no step that passed: without it such a step would be refused with 11
+-- an index that does not fit is not listed, so that P5 refuses no step that passed: without it such a step would be refused
+-- with 11
 pub misfit-unwritable : (group index : ℕ) → isIndexed (groupAt group) ≡ true → fits (groupAt group) index ≡ false → unwritable group index ≡ true
 misfit-unwritable g i x h = unlisted-unwritable g i (misfit-unlisted (groupAt g) i x h)
 

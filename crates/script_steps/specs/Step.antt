@@ -18,8 +18,9 @@ use Rattle.script_steps.specs.declared.Fault.the-variants.{Unallowed, Id
 use Rattle.script_steps.specs.declared.StepRead.{StepRead}
 use Rattle.script_steps.specs.declared.StepRead.the-variants.{Good, Refused}
 
--- document 01, Scripts: "Groups are 0 to 7; for 6 and 7 the index is 0." Document 02, P1: "Scripts gain group 8", and "group 8 with an
--- index above 14h is 7"; P5: "a step whose index doesn't fit its group is refused". MSR and PALMASK have no index, so that 0 alone fits.
+-- document 01, Scripts: "Groups are 0 to 7; for 6 and 7 the index is 0." Document 02, P1: "Scripts gain group 8", and "group 8
+-- with an index above 14h is 7"; P5: "a step whose index doesn't fit its group is refused". MSR and PALMASK have no index, so
+-- that 0 alone fits.
 unfoldable pub names : ℕ → ℕ → Bool
 names group index = ltb group 9 && fits (groupAt group) index && (ltb group 8 || ltb index 0x15)
 

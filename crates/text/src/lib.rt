@@ -1,5 +1,5 @@
-// Text that a program prints, as bytes in ASCII: capital hexadecimal digits, numbers in decimal, and bytes put one behind the other into a lent
-// output. The definitions are specs/Digits, specs/Refused and specs/Adding.
+// Text that a program prints, as bytes in ASCII: capital hexadecimal digits, numbers in decimal, and bytes put one behind the
+// other into a lent output. The definitions are specs/Digits, specs/Refused and specs/Adding.
 ghost use mathlib.Core.Path.{_≡_};
 ghost use Prim.Native.Nat.{_+_, _≤_, _<_};
 ghost use mathlib.Core.Bool.{true, false};

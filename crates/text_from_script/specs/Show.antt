@@ -1,6 +1,7 @@
--- A script file as text: a line for each step, in order. What the text is put into wants room for the longest line, 20 bytes, for
--- each step; the refusals are those of the file (document 01, Numbers returned: 8, 6, 7; document 02, P2: 11), and 9 for too little room. A refusal changes
--- no byte, and bytes after the text keep their value. That composing the text gives the same file again is the crate text_to_script's.
+-- A script file as text: a line for each step, in order. What the text is put into wants room for the longest line, 20 bytes,
+-- for each step; the refusals are those of the file (document 01, Numbers returned: 8, 6, 7; document 02, P2: 11), and 9 for
+-- too little room. A refusal changes no byte, and bytes after the text keep their value. That composing the text gives the same
+-- file again is the crate text_to_script's.
 use Prim.Native.Nat.{ℕ, zero, suc, _*_}
 use mathlib.Core.Bool.{cond}
 use mathlib.Core.Path.{_≡_}

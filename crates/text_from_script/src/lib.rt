@@ -1,5 +1,5 @@
-// A script file shown as text, a line a step. The definition is specs/Show; a step's line is the crate text_steps's. Reading a file and
-// printing the text, or saying what is wrong with the file, is the program show's.
+// A script file shown as text, a line a step. The definition is specs/Show; a step's line is the crate text_steps's. Reading a
+// file and printing the text, or saying what is wrong with the file, is the program show's.
 ghost use mathlib.Core.Path.{_≡_};
 ghost use Prim.Native.Nat.{_+_, _*_, _≤_};
 ghost use lib.ListN.{length};

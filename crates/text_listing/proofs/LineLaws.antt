@@ -1,5 +1,5 @@
--- A line says its command, whatever stands behind it, and so lines say the list of their commands: two scripts with the same lines
--- have the same commands. What is shown is a port below 1000h and a byte.
+-- A line says its command, whatever stands behind it, and so lines say the list of their commands: two scripts with the same
+-- lines have the same commands. What is shown is a port below 1000h and a byte.
 use Prim.Native.Nat.{ℕ, _%_, _<_}
 use native.Mathlib.Omega.{arith}
 use mathlib.Core.Path.{_≡_, refl, sym, ap, _∙_}

@@ -1,6 +1,6 @@
--- Laws of the text. It fits where there is room for the longest, and 96,825 bytes are room for any; with 32,256 bytes for the commands it is a function of the file
--- alone; bytes behind the first 6,145 change nothing, so that a program may stop reading there; and every port of a script has
--- three digits.
+-- Laws of the text. It fits where there is room for the longest, and 96,825 bytes are room for any; with 32,256 bytes for the
+-- commands it is a function of the file alone; bytes behind the first 6,145 change nothing, so that a program may stop reading
+-- there; and every port of a script has three digits.
 use Prim.Native.Nat.{ℕ, _-_, _*_, _≤_}
 use native.Mathlib.Omega.{arith}
 use mathlib.Core.Bool.{Bool, true, false, cond, _&&_}

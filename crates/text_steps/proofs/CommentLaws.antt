@@ -1,6 +1,6 @@
 -- Laws of comments: what a line says is what stands before its comment, so that a comment behind a blank changes nothing
--- (`comment-changes-nothing`), a line that has nothing but a comment is passed over, indented or not (`comment-passed`), and a text
--- without a `#` has no comment (`no-comment`).
+-- (`comment-changes-nothing`), a line that has nothing but a comment is passed over, indented or not (`comment-passed`), and a
+-- text without a `#` has no comment (`no-comment`).
 use Prim.Native.Nat.{ℕ, _+_, _≤_, _<_}
 use native.Mathlib.Omega.{arith}
 use native.Mathlib.Numerals.{add-one}

@@ -1,5 +1,6 @@
--- A legal step that is written as a line reads back as itself. It has no comment in it. Word by word: a word's characters are none of them blank and all of
--- them capitals already, so a word grows by each of them; a byte's two digits read back as the byte, and a name as its group and index.
+-- A legal step that is written as a line reads back as itself. It has no comment in it. Word by word: a word's characters are
+-- none of them blank and all of them capitals already, so a word grows by each of them; a byte's two digits read back as the
+-- byte, and a name as its group and index.
 use Prim.Native.Nat.{ℕ, _+_, _*_, _/_, _%_, _≤_, _<_}
 use native.Mathlib.Omega.{arith}
 use mathlib.Core.Bool.{Bool, true, false, cond, _&&_, _||_, false≢true}

@@ -1,7 +1,7 @@
--- A line of text read: a step, a line to pass over, or one of another form. Words are those of the crate text_tokens, so blanks and the
--- case of letters are free; a byte has exactly two digits, and so has an index: what is left out is not guessed. A `#` at the
--- line's start or behind a blank begins a comment, which is not read; a line without words is passed over. Whether a step is legal
--- is not asked here. Laws of comments are proofs/CommentLaws.
+-- A line of text read: a step, a line to pass over, or one of another form. Words are those of the crate text_tokens, so blanks
+-- and the case of letters are free; a byte has exactly two digits, and so has an index: what is left out is not guessed. A `#`
+-- at the line's start or behind a blank begins a comment, which is not read; a line without words is passed over. Whether a
+-- step is legal is not asked here. Laws of comments are proofs/CommentLaws.
 use Prim.Native.Nat.{ℕ, _/_, _%_}
 use mathlib.Core.Bool.{Bool, true, cond, _&&_}
 use mathlib.Core.List.{List, [], _∷_}

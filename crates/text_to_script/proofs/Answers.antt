@@ -1,5 +1,6 @@
--- What an answer of `compose` can be. A line that it reports is not fine; the steps that it gathers pass and are at most 1,008, so that
--- the writer refuses them for two reasons alone: there is none, or there is too little room, which 6,144 bytes always are.
+-- What an answer of `compose` can be. A line that it reports is not fine; the steps that it gathers pass and are at most 1,008,
+-- so that the writer refuses them for two reasons alone: there is none, or there is too little room, which 6,144 bytes always
+-- are.
 use Prim.Native.Nat.{ℕ, _+_, _*_, _/_, _≤_, _<_}
 use native.Mathlib.Omega.{arith}
 use native.Mathlib.Decide.{ℕ-discrete, decLt}

@@ -1,4 +1,5 @@
--- Steps kept in a buffer, and one turn of the loop over lines in each of its ways: what is still to come from here is the whole answer.
+-- Steps kept in a buffer, and one turn of the loop over lines in each of its ways: what is still to come from here is the whole
+-- answer.
 use Prim.Native.Nat.{ℕ, _+_, _*_, _≤_, _<_}
 use native.Mathlib.Omega.{arith}
 use mathlib.Core.Bool.{Bool, true, false, cond}

@@ -1,5 +1,5 @@
--- Laws of the mark of UTF-8 in front of a text: it lies within the text, and what is composed of a text with it is what is composed
--- of the text (`mark-changes-nothing`). A text that begins with a byte below EFh has none.
+-- Laws of the mark of UTF-8 in front of a text: it lies within the text, and what is composed of a text with it is what is
+-- composed of the text (`mark-changes-nothing`). A text that begins with a byte below EFh has none.
 use Prim.Native.Nat.{ℕ, _≤_, _<_}
 use native.Mathlib.Omega.{arith}
 use mathlib.Core.Bool.{Bool, true, false, cond, _&&_}

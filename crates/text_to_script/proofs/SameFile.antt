@@ -1,5 +1,5 @@
--- To read: what is shown of an accepted file composes to the same file (`same-file`). Line by line: a step's line is a line of its
--- own, since it has no line feed in it; it reads back as the step; and its six bytes are those of the file.
+-- To read: what is shown of an accepted file composes to the same file (`same-file`). Line by line: a step's line is a line of
+-- its own, since it has no line feed in it; it reads back as the step; and its six bytes are those of the file.
 use Prim.Native.Nat.{ℕ, zero, suc, _+_, _*_, _/_, _%_, _≤_, _<_}
 use native.Mathlib.Omega.{arith}
 use native.Mathlib.Decide.{decLt}

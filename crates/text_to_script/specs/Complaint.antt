@@ -1,7 +1,7 @@
--- What is said of an answer of `compose`, in one line: what is wrong, and in which line of the text, counted from 1 as an editor
--- counts them. `compose: line 3: not a step`, `compose: line 3: refused 11, a step can do nothing`, `compose: refused 8, not 1 to
--- 12 whole blocks, or not 1 to 1008 steps`; of a file nothing is said. The words of a number are the crate text_refusals'. Room is
--- asked for 128 bytes: no complaint is longer (proofs/Complaining).
+-- What is said of an answer of `compose`, in one line: what is wrong, and in which line of the text, counted from 1 as an
+-- editor counts them. `compose: line 3: not a step`, `compose: line 3: refused 11, a step can do nothing`, `compose: refused 8,
+-- not 1 to 12 whole blocks, or not 1 to 1008 steps`; of a file nothing is said. The words of a number are the crate
+-- text_refusals'. Room is asked for 128 bytes: no complaint is longer (proofs/Complaining).
 use Prim.Native.Nat.{ℕ, _+_, _%_}
 use mathlib.Core.Bool.{cond}
 use mathlib.Core.List.{List, [], _++_}

@@ -1,7 +1,8 @@
--- A text made into a script file. Line by line, counted from 0: a line to pass over adds nothing, a step adds its six bytes, and the
--- first line that is of another form, whose step does not pass (document 01's 7; 11 of document 02, P2), or whose step is the 1,009th (8)
--- is reported. What is gathered then goes to the writer, which refuses a text without a step (8) and an output with too little room (9). A
--- refusal changes no byte of the output. How a line is read is the crate text_steps's Reading.
+-- A text made into a script file. Line by line, counted from 0: a line to pass over adds nothing, a step adds its six bytes,
+-- and the first line that is of another form, whose step does not pass (document 01's 7; 11 of document 02, P2), or whose step
+-- is the 1,009th (8) is reported. What is gathered then goes to the writer, which refuses a text without a step (8) and an
+-- output with too little room (9). A refusal changes no byte of the output. How a line is read is the crate text_steps's
+-- Reading.
 use Prim.Native.Nat.{ℕ, _+_}
 use mathlib.Core.Bool.{cond}
 use mathlib.Core.List.{List, [], _∷_, _++_}

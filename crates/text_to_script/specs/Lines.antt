@@ -1,5 +1,5 @@
--- The lines of a text: what stands before each line feed, and what stands behind the last one if it is not empty. A text may begin
--- with the mark of UTF-8, which some editors put there: it is no part of the first line.
+-- The lines of a text: what stands before each line feed, and what stands behind the last one if it is not empty. A text may
+-- begin with the mark of UTF-8, which some editors put there: it is no part of the first line.
 use Prim.Native.Nat.{ℕ}
 use mathlib.Core.Bool.{cond, _&&_}
 use mathlib.Core.List.{List, [], _∷_, _++_}

@@ -1,7 +1,7 @@
-// A text made into a script file: a step a line, with comments and blank lines passed over. The definitions are
-// specs/Lines and specs/Compose; how a line is read is the crate text_steps's, and the file the crate script_writer's. That composing what the
-// crate text_from_script makes of a file gives the file again is proofs/SameFile. Reading a text and printing the file is the program
-// compose's.
+// A text made into a script file: a step a line, with comments and blank lines passed over. The definitions are specs/Lines and
+// specs/Compose; how a line is read is the crate text_steps's, and the file the crate script_writer's. That composing what the
+// crate text_from_script makes of a file gives the file again is proofs/SameFile. Reading a text and printing the file is the
+// program compose's.
 ghost use mathlib.Core.Path.{_≡_};
 ghost use Prim.Native.Nat.{_+_, _≤_, _<_};
 ghost use lib.ListN.{length};

@@ -1,4 +1,5 @@
--- Laws of words that are numbers. A place more of a number; two capital digits, as text's `byteDigits` has them, read back as the byte.
+-- Laws of words that are numbers. A place more of a number; two capital digits, as text's `byteDigits` has them, read back as
+-- the byte.
 use Prim.Native.Nat.{ℕ, zero, suc, _+_, _-_, _*_, _/_, _%_}
 use native.Mathlib.Omega.{arith}
 use mathlib.Core.Bool.{true, false, _&&_}

@@ -1,5 +1,5 @@
--- Words that are hexadecimal numbers, in either case since letters are capitals by now: a byte of exactly two digits, and a number of
--- one to eight. Laws are proofs/HexLaws.
+-- Words that are hexadecimal numbers, in either case since letters are capitals by now: a byte of exactly two digits, and a
+-- number of one to eight. Laws are proofs/HexLaws.
 use Prim.Native.Nat.{ℕ, zero, suc, _+_, _-_, _*_, _/_, _%_}
 use mathlib.Core.Bool.{Bool, cond, _&&_, _||_}
 use lib.Dec.{ltb, eqb}

@@ -1,8 +1,8 @@
--- The tokens of a line: its words as numbers. What separates words are blanks: the space and every control character, so a tab and
--- the carriage return before a line feed too. A token is a word's characters in base 256, the first one highest, letters as
--- capitals. `XR60` is 58h 52h 36h 30h, 58523630h. As no character of a word is below 21h, two words of up to eight characters have
--- different tokens (`tokens-differ`); a longer word is 1, which no other word is. No form of a line has more than twelve words: of
--- those behind the thirteenth nothing is kept. A place that has no word is 0. Laws are proofs/TokenLaws.
+-- The tokens of a line: its words as numbers. What separates words are blanks: the space and every control character, so a tab
+-- and the carriage return before a line feed too. A token is a word's characters in base 256, the first one highest, letters as
+-- capitals. `XR60` is 58h 52h 36h 30h, 58523630h. As no character of a word is below 21h, two words of up to eight characters
+-- have different tokens (`tokens-differ`); a longer word is 1, which no other word is. No form of a line has more than twelve
+-- words: of those behind the thirteenth nothing is kept. A place that has no word is 0. Laws are proofs/TokenLaws.
 use Prim.Native.Nat.{ℕ, _+_, _-_, _*_}
 use Prim.Native.String.{String}
 use mathlib.Core.Bool.{Bool, cond}

@@ -1,4 +1,5 @@
-// A line of text as words, and words as hexadecimal numbers: what a program reads. The definitions are specs/Tokens and specs/Hex.
+// A line of text as words, and words as hexadecimal numbers: what a program reads. The definitions are specs/Tokens and
+// specs/Hex.
 ghost use mathlib.Core.Path.{_≡_};
 ghost use Rattle.text_tokens.specs.Tokens.{capital, grown, ended, taken, tokensOf};
 ghost use Rattle.text_tokens.specs.Hex.{digitValue, isDigit, isByte, byteOf, allDigits, valueIn, numberOf};

@@ -1,4 +1,5 @@
--- The loop's invariant: what was passed, and what stands before a comment in what is left, is what stands before the line's comment.
+-- The loop's invariant: what was passed, and what stands before a comment in what is left, is what stands before the line's
+-- comment.
 use Prim.Native.Nat.{_-_, _≤_}
 use mathlib.Core.Bool.{true}
 use mathlib.Core.Path.{_≡_, refl}

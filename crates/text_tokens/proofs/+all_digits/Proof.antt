@@ -1,4 +1,5 @@
--- The cycle of calls {all_digits}. The measure is the number of places. No word, no place, no digit at the end, and the digits before it.
+-- The cycle of calls {all_digits}. The measure is the number of places. No word, no place, no digit at the end, and the digits
+-- before it.
 use Prim.Native.Nat.{ℕ, _<_}
 use Rattle.text_tokens.proofs.HexLaws.{digits-zero, digits-none, digits-more}
 use borrow.Fn.Kinds.{In}
