@@ -8,7 +8,7 @@ use native.Mathlib.Nat.{add-zero}
 use native.Mathlib.Omega.{arith}
 use lib.ListN.{length, take, drop, set, length-append, length-drop, take-append-drop}
 use lib.Seq.{sets-eq, take-at, drop-append-add, drop-drop, length-take-le, take-length, paste}
-use Rattle.lists.specs.Put.{put}
+use Rattle.lists.specs.Put.{put, Added}
 
 pub put-nil : (o : List ℕ) (i : ℕ) → put o i [] ≡ o
 put-nil o i = rw (add-zero, append-nil) (take-append-drop i o)
@@ -45,3 +45,20 @@ pub put-then : (o x y : List ℕ) (i b : ℕ) {o₁ o₂ : List ℕ} → o₁ �
     → i + length x + length y ≤ length o → o₂ ≡ put o i (x ++ y)
 put-then o x y i b {o₁} {o₂} e₁ e₂ eb h =
     e₂ ∙ ap (λ (k : ℕ). put o₁ k y) eb ∙ ap (λ (l : List ℕ). put l (i + length x) y) e₁ ∙ put-put o x y i h
+
+-- ---- bytes behind bytes
+pub added-none : (o : List ℕ) (at : ℕ) → Added o at [] o at
+added-none o at = record { now = sym (put-nil o at); next = omega arith }
+
+pub added-length : {o : List ℕ} {at : ℕ} {x : List ℕ} {o₁ : List ℕ} {e : ℕ} → Added o at x o₁ e → e ≤ length o → length o₁ ≡ length o
+added-length {o} {at} {x} {o₁} {e} s h =
+    let n : e ≡ at + length x = s .next in
+    ap length (s .now) ∙ length-put o x at (omega arith)
+
+pub added-append : {o : List ℕ} {at : ℕ} {x : List ℕ} {o₁ : List ℕ} {e₁ : ℕ} {y : List ℕ} {o₂ : List ℕ} {e₂ : ℕ}
+    → Added o at x o₁ e₁ → Added o₁ e₁ y o₂ e₂ → e₂ ≤ length o → Added o at (x ++ y) o₂ e₂
+added-append {o} {at} {x} {o₁} {e₁} {y} {o₂} {e₂} s t h =
+    let nx : e₁ ≡ at + length x = s .next in
+    let ny : e₂ ≡ e₁ + length y = t .next in
+    let l : length (x ++ y) ≡ length x + length y = length-append x y in
+    record { now = put-then o x y at e₁ (s .now) (t .now) nx (omega arith); next = omega arith }

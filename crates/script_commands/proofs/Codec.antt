@@ -64,7 +64,7 @@ unfolding bytesOfAll
 bytes-append [] ys = refl
 bytes-append (c ∷ xs) ys = ap (_++_ (bytesOf c)) (bytes-append xs ys) ∙ sym (append-assoc (bytesOf c) _ _)
 
-four : (c : Command) → length (bytesOf c) ≡ 4
+pub four : (c : Command) → length (bytesOf c) ≡ 4
 four (Out p v) = refl
 four (In p) = refl
 four (Merge k s) = refl

@@ -10,7 +10,7 @@ use lib.Dec.{ltb}
 use lib.ListN.{length}
 use borrow.Author.Tests.{lt-ltb, le-ltb, ltb-false}
 use Rattle.lists.specs.Numbers.{returned}
-use Rattle.lists.specs.Put.{put}
+use Rattle.lists.specs.Put.{put, Added}
 use Rattle.lists.proofs.Tests.{of-cond}
 use Rattle.script_steps.specs.declared.Step.{Step}
 use Rattle.script.specs.File.{stepCount, checked}
@@ -26,24 +26,28 @@ use Rattle.script.proofs.Reading.{accepted-handed, accepted-end}
 use Rattle.script_commands.specs.Command.{bytesOfAll}
 use Rattle.script_commands.specs.Expansion.{expanded, commandsOf}
 use Rattle.script_commands.specs.Translation.{stepsTo, commandsTo, begins, ifRoom, translated, leftBy, ifAccepted, begun, ofTranslated, translatedTable, begunTable}
-use Rattle.script_commands.specs.Working.{withoutStep, StepsPut, Sent}
+use Rattle.script_commands.specs.Working.{withoutStep, StepsPut}
 use Rattle.script_commands.specs.declared.Translated.{Translated}
 use Rattle.script_commands.specs.declared.Translated.the-variants.{Commands, Refused}
-use Rattle.script_commands.proofs.Sending.{sent-append, sent-none}
+use Rattle.lists.proofs.Put.{added-append, added-none}
+use Rattle.script_commands.proofs.Codec.{bytes-append, length-bytes}
 use Rattle.script_commands.proofs.Expanding.{commands-next}
 use Rattle.script_commands.proofs.Counted.{begins-past}
 
-pub sent-start : (f o : List ℕ) → Sent o 0 (commandsTo f 0) o 0
-unfolding stepsTo commandsOf
-sent-start f o = sent-none o 0
+pub added-start : (f o : List ℕ) → Added o 0 (bytesOfAll (commandsTo f 0)) o 0
+unfolding stepsTo commandsOf bytesOfAll
+added-start f o = added-none o 0
 
-pub sent-step : (f o : List ℕ) (j : ℕ) (s : Step) {o₁ o₂ : List ℕ} {e₁ e₂ : ℕ} → nextOf f j ≡ Found s → Sent o 0 (commandsTo f j) o₁ e₁
-    → Sent o₁ e₁ (expanded s) o₂ e₂ → e₂ ≤ length o → Sent o 0 (commandsTo f (j + 1)) o₂ e₂
-sent-step f o j s is sent more room = rw (add-one, commands-next f j s is) (sent-append sent more room)
+pub added-step : (f o : List ℕ) (j : ℕ) (s : Step) {o₁ o₂ : List ℕ} {e₁ e₂ : ℕ} → nextOf f j ≡ Found s → Added o 0 (bytesOfAll (commandsTo f j)) o₁ e₁
+    → Added o₁ e₁ (bytesOfAll (expanded s)) o₂ e₂ → e₂ ≤ length o → Added o 0 (bytesOfAll (commandsTo f (j + 1))) o₂ e₂
+added-step f o j s is so-far more room = rw (add-one, commands-next f j s is, bytes-append) (added-append so-far more room)
 
 -- all of them written: they are counted
-pub steps-put : (f o : List ℕ) (m : ℕ) {o′ : List ℕ} {e : ℕ} → Sent o 0 (commandsTo f m) o′ e → StepsPut f m o o′ (Commands (e / 4))
-steps-put f o m {o′} {e} s = let k : e / 4 ≡ begins f m = omega arith in record { answer = ap Commands k; bytes = s .bytes }
+pub steps-put : (f o : List ℕ) (m : ℕ) {o′ : List ℕ} {e : ℕ} → Added o 0 (bytesOfAll (commandsTo f m)) o′ e → StepsPut f m o o′ (Commands (e / 4))
+steps-put f o m {o′} {e} s =
+    let n : length (bytesOfAll (commandsTo f m)) ≡ 4 * length (commandsTo f m) = length-bytes (commandsTo f m) in
+    let k : e / 4 ≡ begins f m = omega arith in
+    record { answer = ap Commands k; bytes = s .now }
 
 module _ (f o : List ℕ) (m : ℕ) (acc : checked f ≡ Accepted m) where
   pub too-little-room : length o / 32 < m → Refused Room ≡ translated f (length o)

@@ -1,15 +1,13 @@
 -- For the contracts of private functions alone: nothing here has to be believed. What `put_steps` and `count_steps` answer where
--- the reader hands out no step, and what the functions that write commands leave in the output.
-use Prim.Native.Nat.{ℕ, _+_, _*_}
+-- the reader hands out no step, and what `put_steps` leaves in the output.
+use Prim.Native.Nat.{ℕ}
 use mathlib.Core.Path.{_≡_}
 use mathlib.Core.List.{List}
-use lib.ListN.{length}
 use Rattle.lists.specs.Put.{put}
 use Rattle.script.specs.declared.Next.{Next}
 use Rattle.script.specs.declared.Next.the-variants.{Found, Refused as NoStep, End}
 use Rattle.script_commands.specs.Command.{bytesOfAll}
 use Rattle.script_commands.specs.Translation.{commandsTo, begins}
-use Rattle.script_commands.specs.declared.Command.{Command}
 use Rattle.script_commands.specs.declared.Translated.{Translated}
 use Rattle.script_commands.specs.declared.Translated.the-variants.{Commands, Refused}
 
@@ -23,8 +21,3 @@ withoutStep End k = Commands k
 pub record StepsPut (f : List ℕ) (m : ℕ) (before after : List ℕ) (r : Translated) : Type 0 where
   pub answer : r ≡ Commands (begins f m)
   pub bytes : after ≡ put before 0 (bytesOfAll (commandsTo f m))
-
--- the bytes of commands stand in an output from a place on, and end at another
-pub record Sent (before : List ℕ) (at : ℕ) (cs : List Command) (after : List ℕ) (end : ℕ) : Type 0 where
-  pub bytes : after ≡ put before at (bytesOfAll cs)
-  pub next : end ≡ at + 4 * length cs

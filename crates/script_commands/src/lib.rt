@@ -5,10 +5,11 @@ ghost use mathlib.Core.List.{[], _∷_};
 ghost use Prim.Native.Nat.{ℕ, _+_, _*_, _≤_, _%_, _/_};
 ghost use lib.ListN.{length};
 ghost use Rattle.script.specs.File.{checked};
-ghost use Rattle.script_commands.specs.Command.{bytesOf, commandOf};
+ghost use Rattle.lists.specs.Put.{Added};
+ghost use Rattle.script_commands.specs.Command.{bytesOf, bytesOfAll, commandOf};
 ghost use Rattle.script_commands.specs.Expansion.{ways as waysOf, turned, setBy, fieldBy, expanded};
 ghost use Rattle.script_commands.specs.Translation.{begins, translated, leftBy, begun, ofTranslated, translatedTable, begunTable};
-ghost use Rattle.script_commands.specs.Working.{withoutStep, StepsPut, Sent};
+ghost use Rattle.script_commands.specs.Working.{withoutStep, StepsPut};
 use script::Checked;
 use script::Next;
 use script::Refusal;
@@ -120,7 +121,7 @@ pub fn ports_of(group: u8) -> Ways
 // One command into an output; where the next one goes.
 fn put_command(out: &mut [u8], at: usize, c: Command) -> usize
     requires { ⌜ at + 4 ≤ length (now out) ⌝ }
-    ensures { λ r. ⌜ Sent (now (out .entry)) at (c ∷ []) (now (out .exit)) r ⌝ }
+    ensures { λ r. ⌜ Added (now (out .entry)) at (bytesOf c) (now (out .exit)) r ⌝ }
 {
     let b = to_bytes(c);
     out[at] = b[0];
@@ -133,7 +134,7 @@ fn put_command(out: &mut [u8], at: usize, c: Command) -> usize
 // A byte to each of two ports.
 fn put_outs(out: &mut [u8], at: usize, x: u16, i: u8, p: u16, v: u8) -> usize
     requires { ⌜ at + 8 ≤ length (now out) ⌝ }
-    ensures { λ r. ⌜ Sent (now (out .entry)) at (Command.Out x i ∷ Command.Out p v ∷ []) (now (out .exit)) r ⌝ }
+    ensures { λ r. ⌜ Added (now (out .entry)) at (bytesOfAll (Command.Out x i ∷ Command.Out p v ∷ [])) (now (out .exit)) r ⌝ }
 {
     let next = put_command(out, at, Command::Out(x, i));
     put_command(out, next, Command::Out(p, v))
@@ -142,7 +143,7 @@ fn put_outs(out: &mut [u8], at: usize, x: u16, i: u8, p: u16, v: u8) -> usize
 // A read, a merge and a write back.
 fn put_change(out: &mut [u8], at: usize, r: u16, w: u16, keep: u8, set: u8) -> usize
     requires { ⌜ at + 12 ≤ length (now out) ⌝ }
-    ensures { λ e. ⌜ Sent (now (out .entry)) at (Command.In r ∷ Command.Merge keep set ∷ Command.OutAcc w ∷ []) (now (out .exit)) e ⌝ }
+    ensures { λ e. ⌜ Added (now (out .entry)) at (bytesOfAll (Command.In r ∷ Command.Merge keep set ∷ Command.OutAcc w ∷ [])) (now (out .exit)) e ⌝ }
 {
     let second = put_command(out, at, Command::In(r));
     let third = put_command(out, second, Command::Merge(keep, set));
@@ -152,7 +153,7 @@ fn put_change(out: &mut [u8], at: usize, r: u16, w: u16, keep: u8, set: u8) -> u
 // An index, and then a read, a merge and a write back.
 fn put_indexed_change(out: &mut [u8], at: usize, x: u16, i: u8, p: u16, keep: u8, set: u8) -> usize
     requires { ⌜ at + 16 ≤ length (now out) ⌝ }
-    ensures { λ e. ⌜ Sent (now (out .entry)) at (Command.Out x i ∷ Command.In p ∷ Command.Merge keep set ∷ Command.OutAcc p ∷ []) (now (out .exit)) e ⌝ }
+    ensures { λ e. ⌜ Added (now (out .entry)) at (bytesOfAll (Command.Out x i ∷ Command.In p ∷ Command.Merge keep set ∷ Command.OutAcc p ∷ [])) (now (out .exit)) e ⌝ }
 {
     let next = put_command(out, at, Command::Out(x, i));
     put_change(out, next, p, p, keep, set)
@@ -161,7 +162,7 @@ fn put_indexed_change(out: &mut [u8], at: usize, x: u16, i: u8, p: u16, keep: u8
 // The turn returned to index, and an index written with bit 5 as it was.
 fn put_turned(out: &mut [u8], at: usize, p: u16, i: u8) -> usize
     requires { ⌜ at + 20 ≤ length (now out) ⌝ }
-    ensures { λ r. ⌜ Sent (now (out .entry)) at (turned p i) (now (out .exit)) r ⌝ }
+    ensures { λ r. ⌜ Added (now (out .entry)) at (bytesOfAll (turned p i)) (now (out .exit)) r ⌝ }
 {
     let second = put_command(out, at, Command::In(0x3BA));
     let third = put_command(out, second, Command::In(0x3DA));
@@ -171,7 +172,7 @@ fn put_turned(out: &mut [u8], at: usize, p: u16, i: u8) -> usize
 // The commands of a SET.
 fn put_set(out: &mut [u8], at: usize, w: Ways, i: u8, v: u8) -> usize
     requires { ⌜ at + 32 ≤ length (now out) ⌝ }
-    ensures { λ r. ⌜ Sent (now (out .entry)) at (setBy w i v) (now (out .exit)) r ⌝ }
+    ensures { λ r. ⌜ Added (now (out .entry)) at (bytesOfAll (setBy w i v)) (now (out .exit)) r ⌝ }
 {
     match w {
         Ways::Pair(x, p) => put_outs(out, at, x, i, p, v),
@@ -191,7 +192,7 @@ fn put_set(out: &mut [u8], at: usize, w: Ways, i: u8, v: u8) -> usize
 // The commands of a FIELD.
 fn put_field(out: &mut [u8], at: usize, w: Ways, i: u8, keep: u8, set: u8) -> usize
     requires { ⌜ at + 32 ≤ length (now out) ⌝ }
-    ensures { λ r. ⌜ Sent (now (out .entry)) at (fieldBy w i keep set) (now (out .exit)) r ⌝ }
+    ensures { λ r. ⌜ Added (now (out .entry)) at (bytesOfAll (fieldBy w i keep set)) (now (out .exit)) r ⌝ }
 {
     match w {
         Ways::Pair(x, p) => put_indexed_change(out, at, x, i, p, keep, set),
@@ -211,7 +212,7 @@ fn put_field(out: &mut [u8], at: usize, w: Ways, i: u8, keep: u8, set: u8) -> us
 // The commands of a step.
 fn put_step(out: &mut [u8], at: usize, s: Step) -> usize
     requires { ⌜ at + 32 ≤ length (now out) ⌝ }
-    ensures { λ r. ⌜ Sent (now (out .entry)) at (expanded s) (now (out .exit)) r ⌝ }
+    ensures { λ r. ⌜ Added (now (out .entry)) at (bytesOfAll (expanded s)) (now (out .exit)) r ⌝ }
 {
     match s {
         Step::Set {

@@ -7,7 +7,8 @@ ghost use lib.Dec.{leb};
 ghost use lib.ListN.{length};
 ghost use Rattle.text.specs.Digits.{lastDigit, decimalIn, decimal};
 ghost use Rattle.text.specs.Refused.{refused, placed};
-ghost use Rattle.text.specs.Adding.{withAddedIn, behindIn, withAdded, behind, Added};
+ghost use Rattle.lists.specs.Put.{Added};
+ghost use Rattle.text.specs.Adding.{AddedIn};
 
 // The last hexadecimal digit of a number.
 pub fn digit(n: u16) -> u8
@@ -46,8 +47,7 @@ fn copy(out: &mut [u8], at: usize, bytes: &[u8]) -> usize
 
 // Bytes behind those that stand in an output, if there is room for all of them; where the next one goes.
 pub fn add(out: &mut [u8], at: usize, bytes: &[u8]) -> usize
-    ensures { λ r. ⌜ r ≡ behind (now (out .entry)) at (now (bytes .entry)) ⌝ }
-    ensures { λ r. ⌜ now (out .exit) ≡ withAdded (now (out .entry)) at (now (bytes .entry)) ⌝ }
+    ensures { λ r. ⌜ AddedIn (length (now (bytes .entry))) (now (out .entry)) at (now (bytes .entry)) (now (out .exit)) r ⌝ }
 {
     if has_room(out.len(), at, bytes.len(), 0) {
         return copy(out, at, bytes);
@@ -72,8 +72,7 @@ fn put_decimal(out: &mut [u8], at: usize, n: usize, places: usize) -> usize
 
 // A number in decimal behind what stands in an output, if there is room for the longest, 20 digits; where the next byte goes.
 pub fn add_decimal(out: &mut [u8], at: usize, n: usize) -> usize
-    ensures { λ r. ⌜ r ≡ behindIn 20 (now (out .entry)) at (decimal n) ⌝ }
-    ensures { λ r. ⌜ now (out .exit) ≡ withAddedIn 20 (now (out .entry)) at (decimal n) ⌝ }
+    ensures { λ r. ⌜ AddedIn 20 (now (out .entry)) at (decimal n) (now (out .exit)) r ⌝ }
 {
     if has_room(out.len(), at, 20, 0) {
         return put_decimal(out, at, n, 20);
@@ -93,8 +92,7 @@ fn put_refused(out: &mut [u8], at: usize, number: usize) -> usize
 
 // The line of a refusal, if there is room for the longest, 29 bytes; where the next byte goes.
 pub fn add_refused(out: &mut [u8], at: usize, number: usize) -> usize
-    ensures { λ r. ⌜ r ≡ behindIn 29 (now (out .entry)) at (refused number) ⌝ }
-    ensures { λ r. ⌜ now (out .exit) ≡ withAddedIn 29 (now (out .entry)) at (refused number) ⌝ }
+    ensures { λ r. ⌜ AddedIn 29 (now (out .entry)) at (refused number) (now (out .exit)) r ⌝ }
 {
     if has_room(out.len(), at, 29, 0) {
         return put_refused(out, at, number);
@@ -114,8 +112,7 @@ fn put_place(out: &mut [u8], at: usize, word: &[u8], k: usize) -> usize
 
 // A place, as `show: block 3: `, if there is room for its word and 22 bytes; where the next byte goes.
 pub fn add_place(out: &mut [u8], at: usize, word: &[u8], k: usize) -> usize
-    ensures { λ r. ⌜ r ≡ behindIn (length (now (word .entry)) + 22) (now (out .entry)) at (placed (now (word .entry)) k) ⌝ }
-    ensures { λ r. ⌜ now (out .exit) ≡ withAddedIn (length (now (word .entry)) + 22) (now (out .entry)) at (placed (now (word .entry)) k) ⌝ }
+    ensures { λ r. ⌜ AddedIn (length (now (word .entry)) + 22) (now (out .entry)) at (placed (now (word .entry)) k) (now (out .exit)) r ⌝ }
 {
     if has_room(out.len(), at, word.len(), 22) {
         return put_place(out, at, word, k);

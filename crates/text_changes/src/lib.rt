@@ -5,37 +5,23 @@ ghost use mathlib.Core.Path.{_≡_};
 ghost use Prim.Native.Nat.{_+_, _≤_, _<_};
 ghost use lib.ListN.{length};
 ghost use Rattle.chip.specs.State.{named};
-ghost use Rattle.text.specs.Adding.{Added, withAddedIn, behindIn};
-ghost use Rattle.text_steps.specs.Written.{nameText};
+ghost use Rattle.lists.specs.Put.{Added};
+ghost use Rattle.text.specs.Adding.{AddedIn};
 ghost use Rattle.text_changes.specs.Changes.{registerLine, registerChange, indexes, registersTo, groupsTo, colourLine, sameColour, colourChange, coloursTo, changed};
 use chip::Chip;
 use chip::Rgb;
 use chip_registers::group_at;
+use text::add;
 use text::digit;
+use text::has_room;
 use text_steps::add_name;
-
-// Bytes behind those that stand in an output that has room for them; where the next one goes.
-fn put(out: &mut [u8], at: usize, bytes: &[u8]) -> usize
-    requires { ⌜ at + length (now bytes) ≤ length (now out) ⌝ }
-    ensures { λ r. ⌜ Added (now (out .entry)) at (now (bytes .entry)) (now (out .exit)) r ⌝ }
-{
-    text::add(out, at, bytes)
-}
-
-// A register's name.
-fn put_name(out: &mut [u8], at: usize, g: u8, i: u8) -> usize
-    requires { ⌜ at + 7 ≤ length (now out) ⌝ }
-    ensures { λ r. ⌜ Added (now (out .entry)) at (nameText g i) (now (out .exit)) r ⌝ }
-{
-    add_name(out, at, g, i)
-}
 
 // The line of a register.
 fn put_line(out: &mut [u8], at: usize, g: u8, i: u8, old: u8, new: u8) -> usize
     requires { ⌜ at + 14 ≤ length (now out) ⌝ }
     ensures { λ r. ⌜ Added (now (out .entry)) at (registerLine g i old new) (now (out .exit)) r ⌝ }
 {
-    let end = put_name(out, at, g, i);
+    let end = add_name(out, at, g, i);
     let a = old as u16;
     let b = new as u16;
     let text = [
@@ -47,7 +33,7 @@ fn put_line(out: &mut [u8], at: usize, g: u8, i: u8, old: u8, new: u8) -> usize
         digit(b),
         b'\n',
     ];
-    put(out, end, &text)
+    add(out, end, &text)
 }
 
 // The line of a register, if its bytes differ.
@@ -139,7 +125,7 @@ fn put_entry(out: &mut [u8], at: usize, e: u8, old: Rgb, new: Rgb) -> usize
         digit(z),
         b'\n',
     ];
-    put(out, at, &text)
+    add(out, at, &text)
 }
 
 // Whether two entries are the same.
@@ -189,10 +175,9 @@ fn put_changes(before: Chip, after: Chip, out: &mut [u8], at: usize) -> usize
 // What differs between two states, at a place of an output that has 38,400 bytes from there on; where the next byte goes.
 // With less room nothing changes.
 pub fn tell_changes(before: Chip, after: Chip, out: &mut [u8], at: usize) -> usize
-    ensures { λ r. ⌜ r ≡ behindIn 38400 (now (out .entry)) at (changed (named before) (named after)) ⌝ }
-    ensures { λ r. ⌜ now (out .exit) ≡ withAddedIn 38400 (now (out .entry)) at (changed (named before) (named after)) ⌝ }
+    ensures { λ r. ⌜ AddedIn 38400 (now (out .entry)) at (changed (named before) (named after)) (now (out .exit)) r ⌝ }
 {
-    if text::has_room(out.len(), at, 38400, 0) {
+    if has_room(out.len(), at, 38400, 0) {
         return put_changes(before, after, out, at);
     }
     at

@@ -10,8 +10,8 @@ use lib.ListN.{length, take, length-append}
 use borrow.Author.Tests.{lt-ltb, le-ltb, ltb-false}
 use Rattle.lists.specs.Numbers.{returned}
 use Rattle.lists.proofs.Tests.{of-cond}
-use Rattle.text.specs.Adding.{Added}
-use Rattle.text.proofs.Adding.{added-append}
+use Rattle.lists.specs.Put.{Added}
+use Rattle.lists.proofs.Put.{added-append}
 use Rattle.script_steps.specs.declared.Step.{Step}
 use Rattle.text_steps.specs.Written.{stepLine}
 use Rattle.script.specs.File.{stepCount, checked}
@@ -57,7 +57,7 @@ text-step f o j s is added more room = rw (text-next f j, is) (added-append adde
 
 -- all of them written: they are counted
 pub lines-put : (f o : List ℕ) (m : ℕ) {o′ : List ℕ} {e : ℕ} → Added o 0 (textTo f m) o′ e → LinesPut f m o o′ (Text e)
-lines-put f o m {o′} {e} a = let n : e ≡ length (textTo f m) = omega (arith, a .next) in record { answer = ap Text n; text = a .now }
+lines-put f o m {o′} {e} a = let n : e ≡ length (textTo f m) = omega arith in record { answer = ap Text n; text = a .now }
 
 -- ---- the answers
 -- 20,160 bytes are room for the text of any file

@@ -1,11 +1,9 @@
 // A script file shown as text, a line a step. The definition is specs/Show; a step's line is the crate text_steps's. Reading a
 // file and printing the text, or saying what is wrong with the file, is the program show's.
 ghost use mathlib.Core.Path.{_≡_};
-ghost use Prim.Native.Nat.{_+_, _*_, _≤_};
+ghost use Prim.Native.Nat.{_*_, _≤_};
 ghost use lib.ListN.{length};
-ghost use Rattle.text.specs.Adding.{Added};
 ghost use Rattle.script.specs.File.{checked};
-ghost use Rattle.text_steps.specs.Written.{stepLine};
 ghost use Rattle.text_from_script.specs.Show.{withoutStep, LinesPut, shown, leftBy, ofShown, shownTable};
 use script::Checked;
 use script::Next;
@@ -19,14 +17,6 @@ use text_steps::add_step;
 pub enum Shown {
     Text(usize),
     Refused(Refusal),
-}
-
-// The line of a step.
-fn put_step(out: &mut [u8], at: usize, s: Step) -> usize
-    requires { ⌜ at + 20 ≤ length (now out) ⌝ }
-    ensures { λ r. ⌜ Added (now (out .entry)) at (stepLine s) (now (out .exit)) r ⌝ }
-{
-    add_step(out, at, s)
 }
 
 // What is answered where the reader hands out no step: its refusal, or at the end the text so far.
@@ -52,7 +42,7 @@ fn put_lines(file: &[u8], m: usize, out: &mut [u8]) -> Shown
         let Next::Found(step) = next else {
             return without_step(next, at);
         };
-        at = put_step(out, at, step);
+        at = add_step(out, at, step);
         j += 1;
     }
     Shown::Text(at)

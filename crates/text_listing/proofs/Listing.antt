@@ -26,7 +26,7 @@ use Rattle.script_commands.proofs.Expanding.{begins-most}
 use Rattle.text.specs.Digits.{decimal}
 use Rattle.text_listing.specs.Line.{linesOf}
 use Rattle.text_listing.specs.Text.{header, textBy, text, wanted, answered, listed, leftBy, ofListed, listedTable}
-use Rattle.text.specs.Adding.{Added}
+use Rattle.lists.specs.Put.{Added}
 use Rattle.text_listing.specs.Adding.{linesTo}
 use Rattle.text_listing.specs.declared.Listed.{Listed}
 use Rattle.text_listing.specs.declared.Listed.the-variants.{Short}
@@ -88,7 +88,7 @@ module _ (f : List ℕ) (work : ℕ) (out : List ℕ) (t : Translated) (is : tra
   unfolding listed text
   listed-text h {x} {out′} {n} e a =
       let k : length x ≡ length (textBy t f) = ap length e in
-      let l : n ≡ length (textBy t f) = omega (arith, a .next) in
+      let l : n ≡ length (textBy t f) = omega arith in
       let left : out′ ≡ put out 0 (textBy (translated f work) f) = a .now ∙ ap (put out 0) (e ∙ ap (λ (u : Translated). textBy u f) (sym is)) in
       (rw (is, le-ltb _ _ h, l), left ∙ sym (left-answered t n f work out))
 

@@ -6,11 +6,10 @@ ghost use mathlib.Core.List.{_++_};
 ghost use Prim.Native.Nat.{_+_, _*_, _≤_};
 ghost use lib.ListN.{length};
 ghost use Rattle.script_commands.specs.Translation.{translated, leftBy as translatedBy};
-ghost use Rattle.text.specs.Digits.{decimal};
 ghost use Rattle.text_listing.specs.Line.{line};
 ghost use Rattle.text.specs.Refused.{refused};
 ghost use Rattle.text_listing.specs.Text.{header, listed, leftBy, ofListed, listedTable};
-ghost use Rattle.text.specs.Adding.{Added};
+ghost use Rattle.lists.specs.Put.{Added};
 ghost use Rattle.text_listing.specs.Adding.{lineRead, linesTo};
 use script::Refusal;
 use script::step_count;
@@ -19,6 +18,9 @@ use script_commands::CommandRead;
 use script_commands::Translated;
 use script_commands::command_of;
 use script_commands::translate;
+use text::add;
+use text::add_decimal;
+use text::add_refused;
 use text::digit;
 
 // What the listing answers: how many bytes of text there are, for a file that is refused with the refusal; or that the
@@ -27,14 +29,6 @@ pub enum Listed {
     Text(usize),
     Refused(Refusal, usize),
     Short,
-}
-
-// Bytes behind those that stand in an output that has room for them; where the next one goes.
-fn add(out: &mut [u8], at: usize, bytes: &[u8]) -> usize
-    requires { ⌜ at + length (now bytes) ≤ length (now out) ⌝ }
-    ensures { λ r. ⌜ Added (now (out .entry)) at (now (bytes .entry)) (now (out .exit)) r ⌝ }
-{
-    text::add(out, at, bytes)
 }
 
 // The line of a command.
@@ -135,14 +129,6 @@ fn add_lines(out: &mut [u8], from: usize, bytes: &[u8], n: usize) -> usize
     at
 }
 
-// A number in decimal behind what stands in an output that has room for 20 digits.
-fn add_decimal(out: &mut [u8], at: usize, n: usize) -> usize
-    requires { ⌜ at + 20 ≤ length (now out) ⌝ }
-    ensures { λ r. ⌜ Added (now (out .entry)) at (decimal n) (now (out .exit)) r ⌝ }
-{
-    text::add_decimal(out, at, n)
-}
-
 // The header.
 fn add_header(out: &mut [u8], steps: usize, commands: usize) -> usize
     requires { ⌜ 57 ≤ length (now out) ⌝ }
@@ -160,7 +146,7 @@ fn add_refusal(out: &mut [u8], number: usize) -> usize
     requires { ⌜ 57 ≤ length (now out) ⌝ }
     ensures { λ r. ⌜ Added (now (out .entry)) 0 (refused number) (now (out .exit)) r ⌝ }
 {
-    text::add_refused(out, 0, number)
+    add_refused(out, 0, number)
 }
 
 // The header and the lines of k commands.

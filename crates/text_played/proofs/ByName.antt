@@ -6,7 +6,6 @@ use mathlib.Core.Path.{_≡_, refl, ap, _∙_}
 use mathlib.Core.List.{List}
 use lib.Dec.{ltb}
 use lib.ListN.{length}
-use Rattle.lists.specs.Bits.{isSet}
 use Rattle.lists.specs.Put.{put}
 use Rattle.chip.specs.State.{Named, named}
 use Rattle.chip.specs.Names.{portsOpen}

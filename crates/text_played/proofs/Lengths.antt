@@ -1,9 +1,9 @@
 -- The last line has at most 30 bytes, and the whole text at most 38,430. So it lies within its buffer.
-use Prim.Native.Nat.{ℕ, _+_, _≤_}
+use Prim.Native.Nat.{ℕ, _≤_}
 use native.Mathlib.Omega.{arith}
 use mathlib.Core.Bool.{Bool, true, false, cond}
 use mathlib.Core.Path.{_≡_, refl}
-use mathlib.Core.List.{List, _++_}
+use mathlib.Core.List.{List}
 use lib.Dec.{ltb}
 use lib.ListN.{length, length-append}
 use borrow.Author.Tests.{ltb-false}
@@ -16,8 +16,7 @@ use Rattle.chip_play.specs.declared.Outcome.the-variants.{NotPlayed, Played}
 use Rattle.chip_play.specs.Played.{played}
 use Rattle.text_changes.specs.Changes.{changed}
 use Rattle.text_changes.proofs.Lengths.{changed-most}
-use Rattle.text_played.specs.Told.{fresh, commandsLine, tale, toldOf, toldBy, told}
-use Rattle.text_played.specs.declared.Told.{Told}
+use Rattle.text_played.specs.Told.{fresh, commandsLine, tale, toldOf, told}
 use Rattle.text_played.specs.declared.Told.the-variants.{Text, Refused}
 
 pub line-most : (count : ℕ) → length (commandsLine count) ≤ 30

@@ -6,7 +6,7 @@
 -- text says by the steps alone is a law: proofs/ByName.
 use Prim.Native.Nat.{ℕ}
 use mathlib.Core.Bool.{cond}
-use mathlib.Core.List.{List, [], _∷_, _++_}
+use mathlib.Core.List.{List, _++_}
 use lib.Dec.{ltb}
 use lib.ListN.{length}
 use Rattle.lists.specs.Put.{put}

@@ -4,7 +4,7 @@
 ghost use mathlib.Core.Path.{_≡_};
 ghost use Prim.Native.Nat.{_+_, _≤_};
 ghost use lib.ListN.{length};
-ghost use Rattle.text.specs.Adding.{Added};
+ghost use Rattle.lists.specs.Put.{Added};
 ghost use Rattle.chip.specs.State.{named};
 ghost use Rattle.script_commands.specs.Translation.{translated, leftBy as writtenBy};
 ghost use Rattle.text_changes.specs.Changes.{changed};
@@ -31,22 +31,14 @@ fn put_changes(after: Chip, out: &mut [u8]) -> usize
     tell_changes(Chip::new(0xFF, 0xFF), after, out, 0)
 }
 
-// Bytes behind those that stand in an output that has room for them; where the next one goes.
-fn put(out: &mut [u8], at: usize, bytes: &[u8]) -> usize
-    requires { ⌜ at + length (now bytes) ≤ length (now out) ⌝ }
-    ensures { λ r. ⌜ Added (now (out .entry)) at (now (bytes .entry)) (now (out .exit)) r ⌝ }
-{
-    add(out, at, bytes)
-}
-
 // The line of so many commands.
 fn put_commands(out: &mut [u8], at: usize, count: usize) -> usize
     requires { ⌜ at + 30 ≤ length (now out) ⌝ }
     ensures { λ r. ⌜ Added (now (out .entry)) at (commandsLine count) (now (out .exit)) r ⌝ }
 {
-    let number = put(out, at, b"commands ");
+    let number = add(out, at, b"commands ");
     let end = add_decimal(out, number, count);
-    put(out, end, b"\n")
+    add(out, end, b"\n")
 }
 
 // The whole text.

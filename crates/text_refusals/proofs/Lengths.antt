@@ -2,13 +2,12 @@
 use Prim.Native.Nat.{ℕ, _+_, _≤_}
 use native.Mathlib.Omega.{arith}
 use mathlib.Core.Bool.{Bool, true, false, cond}
-use mathlib.Core.List.{List, [], _∷_, _++_}
+use mathlib.Core.List.{List}
 use lib.Dec.{eqb}
 use lib.ListN.{length, length-append}
 use Rattle.text.specs.Digits.{decimal}
 use Rattle.text.proofs.DigitLaws.{decimal-most}
-use Rattle.text.specs.Adding.{behindIn}
-use Rattle.text.proofs.Adding.{placed-most, behind-within}
+use Rattle.text.proofs.Adding.{placed-most}
 use Rattle.script.specs.Numbers.{ofRefusal}
 use Rattle.script.specs.declared.Refusal.{Refusal}
 use Rattle.script.specs.declared.Refusal.the-variants.{Length, Block, Step, Room}
@@ -56,8 +55,3 @@ complaint-most name r =
     let p : length (placeOf r) ≤ 28 = place-most r in
     let q : length (reason (ofRefusal r .number)) ≤ 91 = reason-most (ofRefusal r .number) in
     simp length-append (omega arith)
-
--- a complaint lies within the output that it is put into
-pub complaint-within : (name : List ℕ) (r : Refusal) (out : List ℕ) (at : ℕ) → at ≤ length out
-    → behindIn (length name + 128) out at (complaint name r) ≤ length out
-complaint-within name r out at h = behind-within (length name + 128) out at (complaint name r) (complaint-most name r) h

@@ -3,7 +3,7 @@
 -- or check rule`, `after: refused 8, not 1 to 12 whole blocks, or not 1 to 1008 steps`. Room is asked for the name and 128
 -- bytes, and for a reason alone 91: no complaint is longer (proofs/Lengths).
 use Prim.Native.Nat.{ℕ}
-use mathlib.Core.List.{List, [], _∷_, _++_}
+use mathlib.Core.List.{List, [], _++_}
 use Rattle.text.specs.Digits.{decimal}
 use Rattle.text.specs.Refused.{placed}
 use Rattle.script.specs.Numbers.{ofRefusal}

@@ -9,8 +9,8 @@ use mathlib.Core.List.{List, [], _++_}
 use lib.ListN.{length}
 use Rattle.chip_registers.specs.Groups.{rowOf}
 use Rattle.chip_registers.specs.declared.Group.{Group}
-use Rattle.text.specs.Adding.{Added}
-use Rattle.text.proofs.Adding.{added-none, added-append, added-length}
+use Rattle.lists.specs.Put.{Added}
+use Rattle.lists.proofs.Put.{added-none, added-append, added-length}
 use Rattle.text_registers.specs.Line.{joined}
 use Rattle.text_registers.specs.Text.{isListed, anyListed}
 use Rattle.text_registers.proofs.Lengths.{joined-most}

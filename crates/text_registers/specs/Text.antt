@@ -2,8 +2,7 @@
 -- and an empty line. A group has a line for each sixteen indexes of which at least one is listed, in ascending order; MSR and
 -- PALMASK have one line each. The text is made of what has a name alone, so it is the same whatever the indexes and the
 -- palette's loading state are. How long it is, where a register's digits stand, and that it tells every listed register are
--- laws: proofs/Lengths, Places, Telling. It is put where 8,192 bytes are left (`withAddedIn` and `behindIn` of the crate
--- text).
+-- laws: proofs/Lengths, Places, Telling. It is put where 8,192 bytes are left (`AddedIn` of the crate text).
 use Prim.Native.Nat.{ℕ, zero, suc, _+_, _*_}
 use mathlib.Core.Bool.{Bool, true, false, cond, _||_}
 use mathlib.Core.List.{List, [], _++_}

@@ -6,8 +6,8 @@ ghost use Prim.Native.Nat.{_+_, _*_, _≤_};
 ghost use lib.ListN.{length};
 ghost use Rattle.chip_registers.specs.Groups.{rowOf};
 ghost use Rattle.chip.specs.State.{named};
-ghost use Rattle.text.specs.Adding.{Added, withAddedIn, behindIn};
-ghost use Rattle.text_steps.specs.Written.{nameText};
+ghost use Rattle.lists.specs.Put.{Added};
+ghost use Rattle.text.specs.Adding.{AddedIn};
 ghost use Rattle.text_registers.specs.Line.{cell, cellsTo, across};
 ghost use Rattle.text_registers.specs.Text.{isListed, anyListed, lineAt, linesTo, paragraph, dumped};
 use chip::Chip;
@@ -15,24 +15,10 @@ use chip_registers::Group;
 use chip_registers::Row;
 use chip_registers::group_at;
 use chip_registers::row_of;
+use text::add;
 use text::digit;
+use text::has_room;
 use text_steps::add_name;
-
-// Bytes behind those that stand in an output that has room for them; where the next one goes.
-fn add(out: &mut [u8], at: usize, bytes: &[u8]) -> usize
-    requires { ⌜ at + length (now bytes) ≤ length (now out) ⌝ }
-    ensures { λ r. ⌜ Added (now (out .entry)) at (now (bytes .entry)) (now (out .exit)) r ⌝ }
-{
-    text::add(out, at, bytes)
-}
-
-// A register's name.
-fn put_name(out: &mut [u8], at: usize, g: u8, i: u8) -> usize
-    requires { ⌜ at + 7 ≤ length (now out) ⌝ }
-    ensures { λ r. ⌜ Added (now (out .entry)) at (nameText g i) (now (out .exit)) r ⌝ }
-{
-    add_name(out, at, g, i)
-}
 
 // A space, and the byte of a register, or `--` at an index that is not listed.
 fn add_cell(chip: Chip, g: Group, i: u8, out: &mut [u8], at: usize) -> usize
@@ -104,7 +90,7 @@ fn add_line(chip: Chip, g: u8, i: u8, out: &mut [u8], at: usize) -> usize
     if !any_listed(group, i, n) {
         return at;
     }
-    let name = put_name(out, at, g, i);
+    let name = add_name(out, at, g, i);
     let end = add_cells(chip, group, i, n, out, name);
     add(out, end, b"\n")
 }
@@ -150,10 +136,9 @@ fn add_paragraphs(chip: Chip, out: &mut [u8], from: usize) -> usize
 // All registers by name, at a place of an output that has 8,192 bytes from there on; where the next byte goes. With
 // less room nothing changes.
 pub fn dump(chip: Chip, out: &mut [u8], at: usize) -> usize
-    ensures { λ r. ⌜ r ≡ behindIn 8192 (now (out .entry)) at (dumped (named chip)) ⌝ }
-    ensures { λ r. ⌜ now (out .exit) ≡ withAddedIn 8192 (now (out .entry)) at (dumped (named chip)) ⌝ }
+    ensures { λ r. ⌜ AddedIn 8192 (now (out .entry)) at (dumped (named chip)) (now (out .exit)) r ⌝ }
 {
-    if text::has_room(out.len(), at, 8192, 0) {
+    if has_room(out.len(), at, 8192, 0) {
         return add_paragraphs(chip, out, at);
     }
     at

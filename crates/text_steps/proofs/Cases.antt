@@ -4,7 +4,7 @@ use Rattle.text.specs.Ascii.{ascii}
 use Rattle.text_tokens.specs.Tokens.{grown, ended, taken, takenAll, tokensOf}
 use Rattle.text_tokens.specs.Hex.{digitValue, isByte, byteOf}
 use Rattle.script_steps.specs.declared.Step.the-variants.{Set}
-use Rattle.text_steps.specs.Reading.{groupOf, indexed, nameOf, setOf, fieldOf, colourOf, stepOf, said, beforeComment, lineOf}
+use Rattle.text_steps.specs.Reading.{groupOf, indexed, nameOf, setOf, stepOf, said, beforeComment, lineOf}
 use Rattle.text_steps.specs.declared.Line.the-variants.{Pass, Is, Other}
 
 pub case-comment-behind : lineOf (ascii "SET XR60 43   # bank") ≡ Is (Set 3 0x60 0x43)

@@ -64,7 +64,7 @@ module _ (b : ℕ) (is-blank : blank b ≡ true) (r : List ℕ) where
   unfolding beforeComment
   cut free [] =
       let low : b < 0x21 = ltb-true _ _ is-blank in
-      inr (rw (ne-eqb b 0x23 (λ z. omega (arith, z)), and-false free, is-blank))
+      inr (rw (ne-eqb b 0x23 (λ z. omega arith), and-false free, is-blank))
   cut free (c ∷ cs) = go (free && eqb c 0x23) (cut (blank c) cs)
     where
       x : List ℕ
@@ -95,7 +95,7 @@ before-blanks [] r h = refl
 before-blanks (c ∷ cs) r h =
     let t = and-both (blank c) (blanks cs) h in
     let low : c < 0x21 = ltb-true _ _ (t .0) in
-    rw (ne-eqb c 0x23 (λ z. omega (arith, z)), t .0) (ap (λ (x : List ℕ). c ∷ x) (before-blanks cs r (t .1)))
+    rw (ne-eqb c 0x23 (λ z. omega arith), t .0) (ap (λ (x : List ℕ). c ∷ x) (before-blanks cs r (t .1)))
 
 taken-blanks : (bs : List ℕ) → blanks bs ≡ true → takenAll none bs ≡ none
 unfolding takenAll taken ended

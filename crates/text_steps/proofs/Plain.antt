@@ -1,8 +1,8 @@
 -- Every character of a legal step's text is a space or stands above `#`: it has no line feed and no comment in it.
 use Prim.Native.Nat.{ℕ, _+_, _/_, _%_, _≤_, _<_}
 use native.Mathlib.Omega.{arith}
-use mathlib.Core.Bool.{Bool, true, false, cond, _&&_, _||_, false≢true}
-use mathlib.Core.Path.{_≡_, refl, sym}
+use mathlib.Core.Bool.{Bool, true, false, cond, _&&_, _||_}
+use mathlib.Core.Path.{_≡_, refl}
 use mathlib.Core.List.{List, [], _∷_, _++_}
 use lib.Dec.{ltb, eqb}
 use borrow.Author.Tests.{lt-ltb, ltb-true, eqb-true}
@@ -28,8 +28,8 @@ pub plain-other : (c : ℕ) → plainCharacter c ≡ true → (c ≡ 0x0A → �
 plain-other c h = go (ltb 0x23 c) refl h
   where
     go : (b : Bool) → ltb 0x23 c ≡ b → (b || eqb c 0x20) ≡ true → (c ≡ 0x0A → ⊥) × (c ≡ 0x23 → ⊥)
-    go true e t = let k : 0x23 < c = ltb-true _ _ e in (λ z. omega (arith, z), λ z. omega (arith, z))
-    go false e t = let k : c ≡ 0x20 = eqb-true _ _ t in (λ z. omega (arith, z), λ z. omega (arith, z))
+    go true e t = let k : 0x23 < c = ltb-true _ _ e in (λ z. omega arith, λ z. omega arith)
+    go false e t = let k : c ≡ 0x20 = eqb-true _ _ t in (λ z. omega arith, λ z. omega arith)
 
 plain-append : (x y : List ℕ) → plain x ≡ true → plain y ≡ true → plain (x ++ y) ≡ true
 plain-append [] y h k = k

@@ -34,7 +34,7 @@ abbrev pair : ℕ → ℕ
 pair v = 256 * lastDigit (v / 16) + lastDigit v
 
 pair-range : (v : ℕ) → (0x3030 ≤ pair v) × (pair v < 0x4747)
-pair-range v = let a = digit-range (v / 16) in let b = digit-range v in (omega (arith, a .0, b .0), omega (arith, a .1, b .1))
+pair-range v = let a = digit-range (v / 16) in let b = digit-range v in (omega arith, omega arith)
 
 abbrev pairs : ℕ → Bool
 pairs v = isByte (pair v) && eqb (byteOf (pair v)) v
@@ -50,12 +50,12 @@ module _ (v : ℕ) (byte : v < 256) where
       (t .0, eqb-true _ _ (t .1))
 
 digit-character : (x : ℕ) → Character (lastDigit x)
-digit-character x = let h = digit-range x in plain-character (lastDigit x) (omega (arith, h .0)) (omega (arith, h .1))
+digit-character x = let h = digit-range x in plain-character (lastDigit x) (omega arith) (omega arith)
 
 digits-taken : (n : ℕ) (a : List ℕ) (v : ℕ) (r : List ℕ) → takenAll (reading n 0 a) (byteDigits v ++ r) ≡ takenAll (reading n (pair v) a) r
 digits-taken n a v r =
     let sum : packed 0 (byteDigits v) ≡ pair v = omega arith in
-    token-taken n a (byteDigits v) 0 0 r (digit-character (v / 16), (digit-character v, tt)) (λ z. omega (arith, z)) (omega arith) (omega arith)
+    token-taken n a (byteDigits v) 0 0 r (digit-character (v / 16), (digit-character v, tt)) (λ z. omega arith) (omega arith) (omega arith)
     ∙ ap (λ (x : ℕ). takenAll (reading n x a) r) sum
 
 -- ---- the end of a word
@@ -116,8 +116,8 @@ module _ (n : ℕ) (a : List ℕ) (g i : ℕ) (group : g < 9) (r : List ℕ) whe
           let l = letter-range g group in
           let sum : packed 0 (letter g ∷ 0x52 ∷ byteDigits i) ≡ 65536 * word + pair i = omega arith in
           token-taken n a (letter g ∷ 0x52 ∷ byteDigits i) 0 0 r
-          (plain-character (letter g) (omega (arith, l .0)) (omega (arith, l .1)), (plain-character 0x52 (omega arith) (omega arith), (digit-character (i / 16), (digit-character i, tt))))
-          (λ z. omega (arith, z))
+          (plain-character (letter g) (omega arith) (omega arith), (plain-character 0x52 (omega arith) (omega arith), (digit-character (i / 16), (digit-character i, tt))))
+          (λ z. omega arith)
           (omega arith)
           (omega arith)
           ∙ ap (λ (x : ℕ). takenAll (reading n x a) r) sum
@@ -155,24 +155,24 @@ module _ (g i : ℕ) (named : names g i ≡ true) where
           let reads = pair-reads i byte in
           let ls : ℕ = 256 * letter g + 0x52 in
           let w : ℕ = 65536 * ls + pair i in
-          let m : w ≡ 0x4D5352 → ⊥ = λ z. omega (arith, z, l .0) in
-          let k : w ≡ 0x50414C4D41534B → ⊥ = λ z. omega (arith, z, l .1, p .1) in
-          let high : w / 65536 ≡ ls = omega (arith, p .1) in
-          let low : w % 65536 ≡ pair i = omega (arith, p .1) in
+          let m : w ≡ 0x4D5352 → ⊥ = λ z. omega arith in
+          let k : w ≡ 0x50414C4D41534B → ⊥ = λ z. omega arith in
+          let high : w / 65536 ≡ ls = omega arith in
+          let low : w % 65536 ≡ pair i = omega arith in
           rw (ne-eqb w 0x4D5352 m, ne-eqb w 0x50414C4D41534B k, high, low, reads .0, reads .1, group-reads g (named-group g i named) e f, lt-ltb g 9 (named-group g i named))
 
 -- ---- a step
 some-pair : (v : ℕ) → pair v ≡ 0 → ⊥
-some-pair v z = omega (arith, z, pair-range v .0)
+some-pair v z = omega (arith, pair-range v .0)
 
 module _ (g i : ℕ) (group : g < 9) where
   some-name : nameWord g i ≡ 0 → ⊥
   some-name = go (eqb g 6) (eqb g 7)
     where
       go : (x y : Bool) → cond x 0x4D5352 (cond y 0x50414C4D41534B (65536 * (256 * letter g + 0x52) + pair i)) ≡ 0 → ⊥
-      go true y z = omega (arith, z)
-      go false true z = omega (arith, z)
-      go false false z = omega (arith, z)
+      go true y z = omega arith
+      go false true z = omega arith
+      go false false z = omega arith
 
   words-set : (v : ℕ) → tokensOf (stepText (Set g i v)) ≡ reading 3 0 (0x534554 ∷ nameWord g i ∷ pair v ∷ replicate 10 0)
   unfolding tokensOf stepText takenAll taken grown ended
@@ -201,7 +201,7 @@ words-colour e r g b =
     let d : List ℕ = set c 1 (pair e) in
     let f : List ℕ = set d 2 (pair r) in
     ap ended
-    (byte-taken 0 0x434F4C4F5552 a (λ z. omega (arith, z)) (omega arith) e (byteText r ++ byteText g ++ byteText b)
+    (byte-taken 0 0x434F4C4F5552 a (λ z. omega arith) (omega arith) e (byteText r ++ byteText g ++ byteText b)
     ∙ byte-taken 1 (pair e) c (some-pair e) (omega arith) r (byteText g ++ byteText b)
     ∙ byte-taken 2 (pair r) d (some-pair r) (omega arith) g (byteText b)
     ∙ byte-taken 3 (pair g) f (some-pair g) (omega arith) b [])

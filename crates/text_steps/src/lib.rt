@@ -4,7 +4,8 @@ ghost use mathlib.Core.Path.{_≡_};
 ghost use Prim.Native.Nat.{_+_, _≤_};
 ghost use mathlib.Core.Bool.{true};
 ghost use lib.ListN.{length, take};
-ghost use Rattle.text.specs.Adding.{withAddedIn, behindIn, Added};
+ghost use Rattle.lists.specs.Put.{Added};
+ghost use Rattle.text.specs.Adding.{AddedIn};
 ghost use Rattle.text_steps.specs.Written.{letter, nameText, byteText, stepText, stepLine};
 ghost use Rattle.text_steps.specs.Reading.{groupOf, indexed, nameOf, setOf, fieldOf, colourOf, stepOf, said, beforeComment, lineOf};
 use script_steps::Step;
@@ -195,28 +196,20 @@ fn letter_of(group: u8) -> u8
     }
 }
 
-// Bytes behind those that stand in an output that has room for them; where the next one goes.
-fn put(out: &mut [u8], at: usize, bytes: &[u8]) -> usize
-    requires { ⌜ at + length (now bytes) ≤ length (now out) ⌝ }
-    ensures { λ r. ⌜ Added (now (out .entry)) at (now (bytes .entry)) (now (out .exit)) r ⌝ }
-{
-    add(out, at, bytes)
-}
-
 // A register's name behind what stands in an output.
 fn put_name(out: &mut [u8], at: usize, group: u8, index: u8) -> usize
     requires { ⌜ at + 7 ≤ length (now out) ⌝ }
     ensures { λ r. ⌜ Added (now (out .entry)) at (nameText group index) (now (out .exit)) r ⌝ }
 {
     if group == 6 {
-        return put(out, at, b"MSR");
+        return add(out, at, b"MSR");
     }
     if group == 7 {
-        return put(out, at, b"PALMASK");
+        return add(out, at, b"PALMASK");
     }
     let i = index as u16;
     let text = [letter_of(group), b'R', digit(i / 16), digit(i)];
-    put(out, at, &text)
+    add(out, at, &text)
 }
 
 // A space and a byte.
@@ -226,7 +219,7 @@ fn put_byte(out: &mut [u8], at: usize, value: u8) -> usize
 {
     let v = value as u16;
     let text = [b' ', digit(v / 16), digit(v)];
-    put(out, at, &text)
+    add(out, at, &text)
 }
 
 // The text of a step.
@@ -240,7 +233,7 @@ fn put_step(out: &mut [u8], at: usize, step: Step) -> usize
             index,
             value,
         } => {
-            let name = put(out, at, b"SET ");
+            let name = add(out, at, b"SET ");
             let byte = put_name(out, name, group, index);
             put_byte(out, byte, value)
         }
@@ -250,7 +243,7 @@ fn put_step(out: &mut [u8], at: usize, step: Step) -> usize
             value,
             mask,
         } => {
-            let name = put(out, at, b"FIELD ");
+            let name = add(out, at, b"FIELD ");
             let bits = put_name(out, name, group, index);
             let byte = put_byte(out, bits, mask);
             put_byte(out, byte, value)
@@ -261,7 +254,7 @@ fn put_step(out: &mut [u8], at: usize, step: Step) -> usize
             green,
             blue,
         } => {
-            let e = put(out, at, b"COLOUR");
+            let e = add(out, at, b"COLOUR");
             let r = put_byte(out, e, entry);
             let g = put_byte(out, r, red);
             let b = put_byte(out, g, green);
@@ -276,13 +269,12 @@ fn put_line(out: &mut [u8], at: usize, step: Step) -> usize
     ensures { λ r. ⌜ Added (now (out .entry)) at (stepLine step) (now (out .exit)) r ⌝ }
 {
     let end = put_step(out, at, step);
-    put(out, end, b"\n")
+    add(out, end, b"\n")
 }
 
 // A step's line behind what stands in an output that has room for the longest line, 20 bytes; where the next line goes.
 pub fn add_step(out: &mut [u8], at: usize, step: Step) -> usize
-    ensures { λ r. ⌜ r ≡ behindIn 20 (now (out .entry)) at (stepLine step) ⌝ }
-    ensures { λ r. ⌜ now (out .exit) ≡ withAddedIn 20 (now (out .entry)) at (stepLine step) ⌝ }
+    ensures { λ r. ⌜ AddedIn 20 (now (out .entry)) at (stepLine step) (now (out .exit)) r ⌝ }
 {
     if text::has_room(out.len(), at, 20, 0) {
         return put_line(out, at, step);
@@ -292,8 +284,7 @@ pub fn add_step(out: &mut [u8], at: usize, step: Step) -> usize
 
 // A register's name behind what stands in an output that has room for the longest, 7 bytes; where the next byte goes.
 pub fn add_name(out: &mut [u8], at: usize, group: u8, index: u8) -> usize
-    ensures { λ r. ⌜ r ≡ behindIn 7 (now (out .entry)) at (nameText group index) ⌝ }
-    ensures { λ r. ⌜ now (out .exit) ≡ withAddedIn 7 (now (out .entry)) at (nameText group index) ⌝ }
+    ensures { λ r. ⌜ AddedIn 7 (now (out .entry)) at (nameText group index) (now (out .exit)) r ⌝ }
 {
     if text::has_room(out.len(), at, 7, 0) {
         return put_name(out, at, group, index);

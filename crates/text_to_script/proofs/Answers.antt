@@ -44,7 +44,7 @@ record Gathered (s : List ℕ) : Type 0 where
   each : (j : ℕ) → j < length s / 6 → isGood (stepAt Plain s j) ≡ true
 
 no-steps : Gathered []
-no-steps = record { whole = refl; few = omega arith; each = λ j h. absurd (omega (arith, h)) }
+no-steps = record { whole = refl; few = omega arith; each = λ j h. absurd (omega arith) }
 
 module _ (s : List ℕ) (g : Gathered s) (x : Step) (ok : judged x ≡ Good x) (room : length s < 6048) where
   -- a step that stood there, and the new one
@@ -67,16 +67,16 @@ module _ (s : List ℕ) (g : Gathered s) (x : Step) (ok : judged x ≡ Good x) (
       let six : length (bytesOf x) ≡ 6 = bytes-length x in
       let size : length (s ++ bytesOf x) ≡ length s + 6 = length-append s (bytesOf x) ∙ ap (_+_ (length s)) six in
       record {
-        whole = omega (arith, g .whole);
-        few = omega (arith, g .whole);
+        whole = omega arith;
+        few = omega arith;
         each = λ j h. go j h (decLt j (length s / 6));
       }
     where
       go : (j : ℕ) → j < length (s ++ bytesOf x) / 6 → Dec (j < length s / 6) → isGood (stepAt Plain (s ++ bytesOf x) j) ≡ true
-      go j h (yes l) = ap isGood (stays j (omega (arith, g .whole))) ∙ g .each j l
+      go j h (yes l) = ap isGood (stays j (omega arith)) ∙ g .each j l
       go j h (no l) =
           let six : length (bytesOf x) ≡ 6 = bytes-length x in
-          let last : j ≡ length s / 6 = omega (arith, length-append s (bytesOf x), g .whole) in
+          let last : j ≡ length s / 6 = omega (arith, length-append s (bytesOf x)) in
           ap (λ (k : ℕ). isGood (stepAt Plain (s ++ bytesOf x) k)) last ∙ ap isGood added
 
 -- a line that is fine keeps them so
@@ -105,7 +105,7 @@ module _ (s : List ℕ) (g : Gathered s) (room : ℕ) where
   none-left : Dec (length s ≡ 0) → wholeSteps s ≡ false → length s ≡ 0
   none-left (yes z) w = z
   none-left (no z) w =
-      let whole : wholeSteps s ≡ true = units-test 6 1008 (length s) (record { even = omega (arith, g .whole); some = omega (arith, g .whole); few = omega (arith, g .few) }) in
+      let whole : wholeSteps s ≡ true = units-test 6 1008 (length s) (record { even = omega arith; some = omega arith; few = omega arith }) in
       absurd (false≢true (sym w ∙ whole))
 
   reasons : (r : Refusal) → written s room ≡ NotWritten r → Reason s room r
@@ -114,10 +114,10 @@ module _ (s : List ℕ) (g : Gathered s) (room : ℕ) where
   reasons (IsStep j why) e =
       let bad : BadStep s j why = answer-says s room e in
       let end : firstBadStep Plain s (length s / 6) ≡ length s / 6 = first-end (λ i. isGood (stepAt Plain s i)) (length s / 6) (g .each) in
-      absurd (omega (arith, bad .bad .first, bad .bad .there))
+      absurd (omega arith)
   reasons Room e =
       let short : room < 512 * blocksFor s = answer-says s room e .1 in
-      inr (refl, omega (arith, g .few))
+      inr (refl, omega arith)
 
 -- ---- the answers
 answers : (ls : List (List ℕ)) (k : ℕ) (s : List ℕ) → Gathered s → (room : ℕ) (r : Refusal) → composedFrom k s ls room ≡ Refused r → Reason (gathered s ls) room r

@@ -9,8 +9,8 @@ use lib.Dec.{ltb}
 use lib.ListN.{length, take, drop, length-append, drop-of-length-le}
 use lib.Seq.{take-at, length-take-le}
 use borrow.Author.Tests.{ltb-true}
-use Rattle.text.specs.Adding.{Added}
-use Rattle.text.proofs.Adding.{added-length}
+use Rattle.lists.specs.Put.{Added}
+use Rattle.lists.proofs.Put.{added-length}
 use Rattle.script_steps.specs.Step.{judged, bytesOf}
 use Rattle.script_steps.specs.declared.Step.{Step}
 use Rattle.script_steps.specs.declared.StepRead.{StepRead}
@@ -107,7 +107,7 @@ module _ (t o : List ℕ) (from k n : ℕ) (g : Going t o from k n) where
     opened : (room : ℕ) → composed t room ≡ orStop (verdict line n) k (composedFrom (k + 1) (withLine line here) (linesOf (drop (e + 1) t)) room)
     unfolding composedFrom here
     opened room =
-        let size : length (take n o) ≡ n = length-take-le n o (omega (arith, g .few, g .size)) in
+        let size : length (take n o) ≡ n = length-take-le n o (omega arith) in
         sym (g .answer room) ∙ rw (ends .lines, ← is, size)
 
     passed : gathered here (linesOf (drop from t)) ≡ gathered (withLine line here) (linesOf (drop (e + 1) t))
@@ -118,7 +118,7 @@ module _ (t o : List ℕ) (from k n : ℕ) (g : Going t o from k n) where
     going-stop bad room = opened room ∙ stops (verdict line n) k _ bad
 
     pub going-room : isFine (verdict line n) ≡ true → n + lineSize line ≤ length o
-    going-room fine = omega (arith, fine-few line n (fine-only (verdict line n) fine) (g .few), g .size)
+    going-room fine = omega (arith, fine-few line n (fine-only (verdict line n) fine) (g .few))
 
     pub going-on : isFine (verdict line n) ≡ true → {o₁ : List ℕ} {n₁ : ℕ} → Kept o n line o₁ n₁ → Going t o₁ (e + 1) (k + 1) n₁
     unfolding here
@@ -128,10 +128,10 @@ module _ (t o : List ℕ) (from k n : ℕ) (g : Going t o from k n) where
         record {
           answer = λ room. sym (opened room ∙ rw (is-fine, ← kept .steps));
           steps = rw (kept .steps) (sym passed ∙ g .steps);
-          few = omega (arith, kept .next);
+          few = omega arith;
           size = kept .size ∙ g .size;
-          counted = omega (arith, g .counted, ends .after);
-          within = omega (arith, ends .within);
+          counted = omega arith;
+          within = omega arith;
         }
 
   pub going-end : length t ≤ from → AllGathered t o n
@@ -139,7 +139,7 @@ module _ (t o : List ℕ) (from k n : ℕ) (g : Going t o from k n) where
   going-end h =
       let none : drop from t ≡ [] = drop-of-length-le t {i = from} h in
       record {
-        within = omega (arith, g .few, g .size);
+        within = omega arith;
         steps = rw none at (g .steps);
         answer = λ room. sym (rw none at (g .answer room));
       }

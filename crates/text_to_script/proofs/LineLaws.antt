@@ -11,7 +11,7 @@ use Rattle.text_to_script.specs.Lines.{lastLine, linesFrom, linesOf}
 use Rattle.text_to_script.specs.Working.{part, LineEnds}
 
 last-some : (l : List ℕ) → 0 < length l → lastLine l ≡ l ∷ []
-last-some [] h = absurd (omega (arith, h))
+last-some [] h = absurd (omega arith)
 last-some (b ∷ bs) h = refl
 
 module _ (t : List ℕ) (from i : ℕ) (after : from ≤ i) where

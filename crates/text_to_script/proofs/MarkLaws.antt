@@ -3,15 +3,14 @@
 use Prim.Native.Nat.{ℕ, _≤_, _<_}
 use native.Mathlib.Omega.{arith}
 use mathlib.Core.Bool.{Bool, true, false, cond, _&&_}
-use mathlib.Core.Path.{_≡_, refl, sym, ap}
+use mathlib.Core.Path.{_≡_, refl, ap}
 use mathlib.Core.List.{List, [], _∷_, _++_}
 use lib.Dec.{eqb}
 use lib.ListN.{length, getD, drop}
 use borrow.Author.Tests.{ne-eqb, eqb-true}
 use Rattle.lists.proofs.Tests.{and-both}
 use Rattle.text_to_script.specs.Lines.{linesOf, mark, markSize, textLines}
-use Rattle.text_to_script.specs.Compose.{composedFrom, composed, fileOfText}
-use Rattle.text_to_script.specs.declared.Composed.{Composed}
+use Rattle.text_to_script.specs.Compose.{composedFrom, composed}
 
 third-within : (t : List ℕ) → eqb (getD t 2 0) 0xBF ≡ true → 3 ≤ length t
 third-within [] e = absurd (let z : _≡_ {A = ℕ} 0 0xBF = eqb-true _ _ e in omega arith)
@@ -29,7 +28,7 @@ mark-within t = go (eqb (getD t 0 0) 0xEF && eqb (getD t 1 0) 0xBB && eqb (getD 
 
 pub mark-none : (t : List ℕ) → getD t 0 0 < 0xEF → markSize t ≡ 0
 unfolding markSize
-mark-none t h = rw (ne-eqb (getD t 0 0) 0xEF (λ z. omega (arith, z)))
+mark-none t h = rw (ne-eqb (getD t 0 0) 0xEF (λ z. omega arith))
 
 -- a text without a mark, as it is
 pub lines-unmarked : (t : List ℕ) → markSize t ≡ 0 → textLines t ≡ linesOf t

@@ -5,7 +5,8 @@
 ghost use mathlib.Core.Path.{_≡_};
 ghost use Prim.Native.Nat.{_+_, _≤_, _<_};
 ghost use lib.ListN.{length};
-ghost use Rattle.text.specs.Adding.{withAddedIn, behindIn, Added};
+ghost use Rattle.lists.specs.Put.{Added};
+ghost use Rattle.text.specs.Adding.{AddedIn};
 ghost use Rattle.script_writer.specs.Write.{written, leftBy as writtenBy};
 ghost use Rattle.text_to_script.specs.Lines.{markSize};
 ghost use Rattle.text_to_script.specs.Compose.{stepVerdict, verdict, verdictNumber, ofWriter, composed, leftBy, ofComposed, composedTable};
@@ -251,8 +252,7 @@ fn put_complaint(out: &mut [u8], at: usize, c: Composed) -> usize
 // What is said of an answer, in one line behind what stands in an output, if there is room for 128 bytes; where the next
 // byte goes.
 pub fn complain(c: Composed, out: &mut [u8], at: usize) -> usize
-    ensures { λ r. ⌜ r ≡ behindIn 128 (now (out .entry)) at (complaint c) ⌝ }
-    ensures { λ r. ⌜ now (out .exit) ≡ withAddedIn 128 (now (out .entry)) at (complaint c) ⌝ }
+    ensures { λ r. ⌜ AddedIn 128 (now (out .entry)) at (complaint c) (now (out .exit)) r ⌝ }
 {
     if text::has_room(out.len(), at, 128, 0) {
         return put_complaint(out, at, c);

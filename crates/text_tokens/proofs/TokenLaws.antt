@@ -97,7 +97,7 @@ module _ (n : ℕ) (a : List ℕ) where
       let small : 256 ^ k ≤ 0x100000000000000 = leb-true (256 ^ k) 0x100000000000000 (every-at power-small 0 8 all-small k (omega arith) (omega arith)) in
       let more : 256 ^ suc k ≡ 256 * 256 ^ k = pow-succ' 256 k in
       ap (λ (s : Tokens). takenAll s (cs ++ r)) (character w c (h .0) p (omega arith))
-      ∙ token-taken cs (256 * w + c) (suc k) r (h .1) (λ z. omega (arith, z, h .0 .0)) (omega (arith, h .0 .1)) (omega arith)
+      ∙ token-taken cs (256 * w + c) (suc k) r (h .1) (λ z. omega arith) (omega arith) (omega arith)
 
 -- ---- different words have different numbers
 packed-same : (x y : List ℕ) (v w : ℕ) → Characters x → Characters y → length x ≡ length y → packed v x ≡ packed w y → (v ≡ w) × (x ≡ y)
@@ -107,19 +107,19 @@ packed-same (c ∷ cs) [] v w h k l e = absurd (omega arith)
 packed-same (c ∷ cs) (d ∷ ds) v w h k l e =
     let rest = packed-same cs ds (256 * v + c) (256 * w + d) (h .1) (k .1) (omega arith) e in
     let front : 256 * v + c ≡ 256 * w + d = rest .0 in
-    let first : c ≡ d = omega (arith, h .0 .1, k .0 .1) in
+    let first : c ≡ d = omega arith in
     let tail : cs ≡ ds = rest .1 in
-    (omega (arith, h .0 .1, k .0 .1), cc)
+    (omega arith, cc)
 
 -- a longer word has a larger number, whatever stands before it
 longer : (x y : List ℕ) (v : ℕ) → Characters x → Characters y → length y < length x → packed v x ≡ packed 0 y → ⊥
-longer [] y v h k l e = omega (arith, l)
+longer [] y v h k l e = omega arith
 longer (c ∷ cs) y v h k l e = go (ℕ-discrete (length cs) (length y)) (longer cs y (256 * v + c) (h .1) k)
   where
     go : Dec (length cs ≡ length y) → (length y < length cs → packed (256 * v + c) cs ≡ packed 0 y → ⊥) → ⊥
     go (yes s) rest =
         let none : 256 * v + c ≡ 0 = packed-same cs y (256 * v + c) 0 (h .1) k s e .0 in
-        omega (arith, h .0 .0)
+        omega arith
     go (no s) rest = rest (omega arith) e
 
 pub tokens-differ : (x y : List ℕ) → Characters x → Characters y → packed 0 x ≡ packed 0 y → x ≡ y

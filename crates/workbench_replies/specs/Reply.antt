@@ -1,6 +1,6 @@
 -- The text of an answer: a line, with a line feed at its end, or all registers. A number is decimal, and bytes are two capital
 -- hexadecimal digits each. It goes where 8,192 bytes are left, the room that all registers ask for; with less nothing changes
--- (`withAddedIn` and `behindIn` of the crate text). That no answer is longer, and worked answers, are proofs/ReplyLaws.
+-- (`AddedIn` of the crate text). That no answer is longer, and worked answers, are proofs/ReplyLaws.
 use Prim.Native.Nat.{ℕ, _+_}
 use mathlib.Core.List.{List, [], _++_}
 use Rattle.text.specs.Digits.{byteDigits, decimal}

@@ -1,15 +1,16 @@
 // The text of an answer of the workbench, put into a lent output: a number, a byte, a colour, all registers, or that the
 // line was not known. The definition is specs/Reply; all registers are the crate text_registers's, and digits the crate text's.
-ghost use mathlib.Core.Path.{_≡_};
 ghost use Prim.Native.Nat.{_+_, _≤_};
 ghost use lib.ListN.{length};
 ghost use Rattle.chip.specs.State.{named};
-ghost use Rattle.text.specs.Digits.{decimal};
-ghost use Rattle.text.specs.Adding.{Added, withAddedIn, behindIn};
-ghost use Rattle.text_registers.specs.Text.{dumped};
+ghost use Rattle.lists.specs.Put.{Added};
+ghost use Rattle.text.specs.Adding.{AddedIn};
 ghost use Rattle.workbench_replies.specs.Reply.{replyText};
 use chip::Chip;
+use text::add;
+use text::add_decimal;
 use text::digit;
+use text::has_room;
 use text_registers::dump;
 
 // An answer.
@@ -30,31 +31,6 @@ pub enum Reply {
     Unknown,
 }
 
-// Bytes behind those that stand in an output that has room for them; where the next one goes.
-fn add(out: &mut [u8], at: usize, bytes: &[u8]) -> usize
-    requires { ⌜ at + length (now bytes) ≤ length (now out) ⌝ }
-    ensures { λ r. ⌜ Added (now (out .entry)) at (now (bytes .entry)) (now (out .exit)) r ⌝ }
-{
-    text::add(out, at, bytes)
-}
-
-// A number in decimal.
-fn add_number(out: &mut [u8], at: usize, n: u8) -> usize
-    requires { ⌜ at + 20 ≤ length (now out) ⌝ }
-    ensures { λ r. ⌜ Added (now (out .entry)) at (decimal n) (now (out .exit)) r ⌝ }
-    ensures { λ r. ⌜ r ≤ at + 20 ⌝ }
-{
-    text::add_decimal(out, at, n as usize)
-}
-
-// All registers.
-fn add_registers(chip: Chip, out: &mut [u8], at: usize) -> usize
-    requires { ⌜ at + 8192 ≤ length (now out) ⌝ }
-    ensures { λ r. ⌜ Added (now (out .entry)) at (dumped (named chip)) (now (out .exit)) r ⌝ }
-{
-    dump(chip, out, at)
-}
-
 // The text of an answer.
 fn add_reply(chip: Chip, reply: Reply, out: &mut [u8], at: usize) -> usize
     requires { ⌜ at + 8192 ≤ length (now out) ⌝ }
@@ -62,11 +38,11 @@ fn add_reply(chip: Chip, reply: Reply, out: &mut [u8], at: usize) -> usize
 {
     match reply {
         Reply::Number(k) => {
-            let end = add_number(out, at, k);
+            let end = add_decimal(out, at, k as usize);
             add(out, end, b"\n")
         }
         Reply::Byte(k, value) => {
-            let end = add_number(out, at, k);
+            let end = add_decimal(out, at, k as usize);
             let v = value as u16;
             let text = [b' ', digit(v / 16), digit(v), b'\n'];
             add(out, end, &text)
@@ -90,7 +66,7 @@ fn add_reply(chip: Chip, reply: Reply, out: &mut [u8], at: usize) -> usize
             ];
             add(out, at, &text)
         }
-        Reply::Registers => add_registers(chip, out, at),
+        Reply::Registers => dump(chip, out, at),
         Reply::Requests => add(
             out,
             at,
@@ -104,10 +80,9 @@ fn add_reply(chip: Chip, reply: Reply, out: &mut [u8], at: usize) -> usize
 // The text of an answer, at a place of an output that has 8,192 bytes from there on; where the next byte goes. With less
 // room nothing changes.
 pub fn print(chip: Chip, reply: Reply, out: &mut [u8], at: usize) -> usize
-    ensures { λ r. ⌜ r ≡ behindIn 8192 (now (out .entry)) at (replyText (named chip) reply) ⌝ }
-    ensures { λ r. ⌜ now (out .exit) ≡ withAddedIn 8192 (now (out .entry)) at (replyText (named chip) reply) ⌝ }
+    ensures { λ r. ⌜ AddedIn 8192 (now (out .entry)) at (replyText (named chip) reply) (now (out .exit)) r ⌝ }
 {
-    if text::has_room(out.len(), at, 8192, 0) {
+    if has_room(out.len(), at, 8192, 0) {
         return add_reply(chip, reply, out, at);
     }
     at

@@ -1,6 +1,6 @@
 -- The text's length lies within the buffer that it was put into.
-use Prim.Native.Nat.{ℕ, _≤_}
-use mathlib.Core.Path.{_≡_, sym, ap, _∙_}
+use Prim.Native.Nat.{_≤_}
+use mathlib.Core.Path.{sym, ap, _∙_}
 use native.Mathlib.Omega.{arith}
 use borrow.Author.Needs.{needs}
 use denote.Ref.{now}
@@ -14,13 +14,13 @@ within-n : (c : tie.After-n) → c .n .given .0 .0 ≤ length (c .before .before
 within-n c =
     let l = c .before .before .before .before .before .before .list in
     let a = c .before .before .before .before .before .before .before .before .before .before .before .before .args in
-    omega (arith, listed-within (now (a .file)) (length (now (a .work))) (length (now (a .text))), ap counted (sym (c .n .given .1) ∙ l .ensures .0), l .kept .1 .1 .0)
+    omega (arith, listed-within (now (a .file)) (length (now (a .work))) (length (now (a .text))), ap counted (sym (c .n .given .1) ∙ l .ensures .0))
 
 within-r : (c : tie.After-r) → c .r .given .0 .1 .0 ≤ length (c .before .before .before .before .before .before .list .last .1 .1 .0)
 within-r c =
     let l = c .before .before .before .before .before .before .list in
     let a = c .before .before .before .before .before .before .before .before .before .before .before .before .args in
-    omega (arith, listed-within (now (a .file)) (length (now (a .work))) (length (now (a .text))), ap counted (sym (c .r .given .1) ∙ l .ensures .0), l .kept .1 .1 .0)
+    omega (arith, listed-within (now (a .file)) (length (now (a .work))) (length (now (a .text))), ap counted (sym (c .r .given .1) ∙ l .ensures .0))
 
 pub print-listing-spec : {M : Type 1} → statement M
 print-listing-spec =

@@ -1,6 +1,6 @@
 -- Four bytes, one after the other.
 use lib.ListN.{length-set}
-use Rattle.script_commands.proofs.Sending.{sent-one}
+use Rattle.script_commands.proofs.Sending.{added-command}
 use borrow.Author.Needs.{needs}
 use native.Mathlib.Omega.{arith}
 use Rattle.script_commands.proofs.put_command.Statement.{statement}
@@ -24,4 +24,4 @@ put-command-spec =
     (λ c. simp length-set (omega arith))
     (λ c. search needs)
     (λ c. search needs)
-    (λ c. sent-one _ _ _ _ (c .to-bytes .ensures) (c .before .before .pre)))
+    (λ c. added-command _ _ (c .before .before .args .c) _ (c .to-bytes .ensures) (c .before .before .pre)))

@@ -1,11 +1,13 @@
 -- By the way the group is reached.
-use Rattle.script_commands.proofs.Sending.{sent-append, sent-none}
+use Rattle.script_commands.specs.Command.{bytesOfAll}
+use Rattle.lists.proofs.Put.{added-append, added-none}
 use borrow.Author.Needs.{needs}
 use native.Mathlib.Omega.{arith}
 use Rattle.script_commands.proofs.put_field.Statement.{statement}
 use Rattle.script_commands.proofs.put_field.Tie as tie
 
 pub put-field-spec : {M : Type 1} → statement M
+unfolding bytesOfAll
 put-field-spec =
     tie.close
     (tie.spec
@@ -26,13 +28,13 @@ put-field-spec =
     (λ c. search needs)
     -- two such pairs
     (λ c. let b = c .before .before .before .before .before .before in
-    rw (b .before .before .before .w2 .given .1) (sent-append (b .put-indexed-change2 .ensures) (c .before .before .put-indexed-change3 .ensures) (omega arith)))
+    rw (b .before .before .before .w2 .given .1) (added-append (b .put-indexed-change2 .ensures) (c .before .before .put-indexed-change3 .ensures) (omega arith)))
     (λ c. search needs)
     -- no index
     (λ c. rw (c .before .before .before .before .before .w3 .given .1) (c .before .before .put-change .ensures))
     (λ c. search needs)
     -- by turns
     (λ c. let b = c .before .before .before .before .before .before in
-    rw (b .before .before .before .w4 .given .1) (sent-append (b .put-turned .ensures) (c .before .before .put-change2 .ensures) (omega arith)))
+    rw (b .before .before .before .w4 .given .1) (added-append (b .put-turned .ensures) (c .before .before .put-change2 .ensures) (omega arith)))
     -- no such group
-    (λ c. rw (c .enum-told .given .1) (sent-none _ _)))
+    (λ c. rw (c .enum-told .given .1) (added-none _ _)))

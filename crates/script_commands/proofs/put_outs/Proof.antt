@@ -1,11 +1,13 @@
 -- One behind the other.
-use Rattle.script_commands.proofs.Sending.{sent-append}
+use Rattle.script_commands.specs.Command.{bytesOfAll}
+use Rattle.lists.proofs.Put.{added-append}
 use borrow.Author.Needs.{needs}
 use native.Mathlib.Omega.{arith}
 use Rattle.script_commands.proofs.put_outs.Statement.{statement}
 use Rattle.script_commands.proofs.put_outs.Tie as tie
 
 pub put-outs-spec : {M : Type 1} → statement M
+unfolding bytesOfAll
 put-outs-spec =
     tie.close
     (tie.spec
@@ -13,4 +15,4 @@ put-outs-spec =
     (λ c κs. search needs)
     (λ c. search needs)
     (λ c. let b = c .before .before .before .before .before .before in
-    sent-append (b .put-command .ensures) (c .before .before .put-command2 .ensures) (omega arith)))
+    added-append (b .put-command .ensures) (c .before .before .put-command2 .ensures) (omega arith)))

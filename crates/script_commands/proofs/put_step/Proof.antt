@@ -1,13 +1,14 @@
 -- By the kind of step.
 use Rattle.script_commands.specs.Expansion.{expanded}
-use Rattle.script_commands.proofs.Sending.{sent-append}
+use Rattle.script_commands.specs.Command.{bytesOfAll}
+use Rattle.lists.proofs.Put.{added-append}
 use borrow.Author.Needs.{needs}
 use native.Mathlib.Omega.{arith}
 use Rattle.script_commands.proofs.put_step.Statement.{statement}
 use Rattle.script_commands.proofs.put_step.Tie as tie
 
 pub put-step-spec : {M : Type 1} → statement M
-unfolding expanded
+unfolding expanded bytesOfAll
 put-step-spec =
     tie.close
     (tie.spec
@@ -30,4 +31,4 @@ put-step-spec =
     (λ c. search needs)
     -- COLOUR
     (λ c. let b = c .before .before .before .before .before .before in
-    rw (b .before .before .before .s3 .given .1) (sent-append (b .put-outs .ensures) (c .before .before .put-outs2 .ensures) (omega arith))))
+    rw (b .before .before .before .s3 .given .1) (added-append (b .put-outs .ensures) (c .before .before .put-outs2 .ensures) (omega arith))))

@@ -6,18 +6,21 @@ use mathlib.Core.Logic.{⊎-elim}
 use lib.ListN.{length}
 use Rattle.script.specs.Reader.{nextOf}
 use Rattle.script.proofs.Reading.{accepted-handed}
+use Rattle.lists.specs.Put.{Added}
+use Rattle.lists.proofs.Put.{added-length}
+use Rattle.script_commands.specs.Command.{bytesOfAll}
+use Rattle.script_commands.specs.Expansion.{expanded}
 use Rattle.script_commands.specs.Translation.{commandsTo}
-use Rattle.script_commands.specs.Working.{Sent}
+use Rattle.script_commands.proofs.Codec.{length-bytes}
 use Rattle.script_commands.proofs.Expanding.{expanded-most, begins-most}
-use Rattle.script_commands.proofs.Sending.{sent-length}
-use Rattle.script_commands.proofs.Translating.{sent-start, sent-step, steps-put}
+use Rattle.script_commands.proofs.Translating.{added-start, added-step, steps-put}
 use borrow.Author.Needs.{needs}
 use native.Mathlib.Omega.{arith}
 use Rattle.script_commands.proofs.put_steps.Statement.{statement}
 use Rattle.script_commands.proofs.put_steps.Tie as tie
 
 abbrev Inv-loop : tie.InvT-loop
-Inv-loop file m out₀ at₀ j₀ out at j = Sent out₀ 0 (commandsTo file j) out at × (length out ≡ length out₀) × (j ≤ m)
+Inv-loop file m out₀ at₀ j₀ out at j = Added out₀ 0 (bytesOfAll (commandsTo file j)) out at × (length out ≡ length out₀) × (j ≤ m)
 
 abbrev μ-loop : tie.MeasureT-loop
 μ-loop file m out₀ at₀ j₀ out at j = m - j
@@ -28,7 +31,7 @@ put-steps-spec =
     (tie.spec
     Inv-loop
     μ-loop
-    (λ c. (sent-start _ _, refl, omega arith))
+    (λ c. (added-start _ _, refl, omega arith))
     (λ c κs. search needs)
     (λ c. search needs)
     (λ c κs. search needs)
@@ -39,7 +42,8 @@ put-steps-spec =
     absurd (⊎-elim (λ w. omega arith) (λ w. omega arith) (rw (c .before .before .nth .ensures .0 ∙ h .answer) at (c .before .match .keys2))))
     -- there is room for a step's commands
     (λ c κs. let l = c .before .before .before .before .before .before in
-    omega (arith, begins-most (l .before .before .before .args .file .now) (l .loop .j)))
+    let f = l .before .before .before .args .file .now in
+    omega (arith, begins-most f (l .loop .j), length-bytes (commandsTo f (l .loop .j))))
     (λ c. omega arith)
     (λ c. omega arith)
     -- a step's commands written
@@ -49,9 +53,9 @@ put-steps-spec =
     let put = c .before .before .put-step in
     let s : nextOf (a .file .now) (l .loop .j) ≡ _ = sym (here .before .before .nth .ensures .0) ∙ here .next .given .1 in
     let room : put .result ≤ length (a .out .now) =
-    omega (arith, expanded-most (here .next .given .0 .0), begins-most (a .file .now) (l .loop .j)) in
+    omega (arith, expanded-most (here .next .given .0 .0), length-bytes (expanded (here .next .given .0 .0)), begins-most (a .file .now) (l .loop .j), length-bytes (commandsTo (a .file .now) (l .loop .j))) in
     let same : length (l .loop .out) ≡ length (a .out .now) = l .loop .inv .1 in
-    (sent-step _ _ _ _ s (l .loop .inv .0) (put .ensures) room, sent-length (put .ensures) (omega arith) ∙ same, omega arith))
+    (added-step _ _ _ _ s (l .loop .inv .0) (put .ensures) room, added-length (put .ensures) (omega arith) ∙ same, omega arith))
     (λ c. c .before .loop .inv .1)
     -- all m of them
     (λ c. let l = c .before in

@@ -1,11 +1,13 @@
 -- Three, one behind the other.
-use Rattle.script_commands.proofs.Sending.{sent-append}
+use Rattle.script_commands.specs.Command.{bytesOfAll}
+use Rattle.lists.proofs.Put.{added-append}
 use borrow.Author.Needs.{needs}
 use native.Mathlib.Omega.{arith}
 use Rattle.script_commands.proofs.put_turned.Statement.{statement}
 use Rattle.script_commands.proofs.put_turned.Tie as tie
 
 pub put-turned-spec : {M : Type 1} → statement M
+unfolding bytesOfAll
 put-turned-spec =
     tie.close
     (tie.spec
@@ -14,5 +16,5 @@ put-turned-spec =
     (λ c κs. search needs)
     (λ c. search needs)
     (λ c. let b = c .before .before .before .before .before .before in
-    sent-append (b .before .before .before .before .put-command .ensures)
-    (sent-append (b .put-command2 .ensures) (c .before .before .put-change .ensures) (omega arith)) (omega arith)))
+    added-append (b .before .before .before .before .put-command .ensures)
+    (added-append (b .put-command2 .ensures) (c .before .before .put-change .ensures) (omega arith)) (omega arith)))

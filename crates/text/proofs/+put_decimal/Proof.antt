@@ -6,7 +6,7 @@ use borrow.Author.Needs.{needs}
 use native.Mathlib.Omega.{arith}
 use denote.Ref.{now}
 use Rattle.text.proofs.DigitLaws.{decimal-none, decimal-small, decimal-more, decimal-most}
-use Rattle.text.proofs.Adding.{added-none, added-append}
+use Rattle.lists.proofs.Put.{added-none, added-append}
 use Rattle.text.proofs.put_decimal.Reads as put-decimal
 use Rattle.text.proofs.put_decimal.Kinds as put-decimal-kinds
 use Rattle.text.proofs.+put_decimal.Lts-put_decimal as put-decimal-lts
@@ -41,9 +41,9 @@ pub +put-decimal-spec : {M : Type 1} → statement M
     (λ c. search needs)
     (λ c. search needs)
     (λ c. search needs)
-    (λ c κs. let a = c .before .before .before .before .before .before .before .before .before .args in omega (arith, decimal-most (a .places - 1) (a .n / 10), c .before .before .before .before .put-decimal .ensures .next))
+    (λ c κs. let a = c .before .before .before .before .before .before .before .before .before .args in omega (arith, decimal-most (a .places - 1) (a .n / 10)))
     (λ c. search needs)
     (λ c. let a = c .before .before .before .before .before .before .before .before .before .before .before .before .args in
     let d = c .before .before .before .before .before .before .before .put-decimal .ensures in
     rw (decimal-more _ _ (c .before .before .before .before .before .before .before .before .before .before .if1 .left) (c .before .before .before .before .before .before .before .before .before .if2 .left))
-    (added-append d (c .before .before .copy2 .ensures) (omega (arith, decimal-most (a .places - 1) (a .n / 10), d .next, c .before .before .copy2 .ensures .next))))
+    (added-append d (c .before .before .copy2 .ensures) (omega (arith, decimal-most (a .places - 1) (a .n / 10)))))

@@ -1,7 +1,7 @@
 -- The word, the digits and the line feed, one behind the other.
 use native.Mathlib.Omega.{arith}
 use borrow.Author.Needs.{needs}
-use Rattle.text.proofs.Adding.{added-append}
+use Rattle.lists.proofs.Put.{added-append}
 use Rattle.text.proofs.DigitLaws.{decimal-most}
 use Rattle.text.proofs.put_refused.Statement.{statement}
 use Rattle.text.proofs.put_refused.Tie as tie
@@ -12,12 +12,12 @@ put-refused-spec =
     (tie.spec
     (λ c. search needs)
     (λ c κs. search needs)
-    (λ c κs. omega (arith, c .before .before .before .copy .ensures .next, c .before .before .before .before .before .before .before .pre))
+    (λ c κs. omega arith)
     (λ c. search needs)
-    (λ c κs. omega (arith, c .before .before .before .before .before .before .before .before .copy .ensures .next, c .before .before .before .before .put-decimal .ensures .next, decimal-most 20 (c .before .before .before .before .before .before .before .before .before .before .before .before .args .number), c .before .before .before .before .before .before .before .before .before .before .before .before .pre))
+    (λ c κs. omega (arith, decimal-most 20 (c .before .before .before .before .before .before .before .before .before .before .before .before .args .number)))
     (λ c. search needs)
     (λ c. let w = c .before .before .before .before .before .before .before .before .before .before .before .copy .ensures in
     let d = c .before .before .before .before .before .before .before .put-decimal .ensures in
     let e = c .before .before .copy2 .ensures in
     let few = decimal-most 20 (c .before .before .before .before .before .before .before .before .before .before .before .before .before .before .before .args .number) in
-    added-append (added-append w d (omega (arith, w .next, d .next, c .before .before .before .before .before .before .before .before .before .before .before .before .before .before .before .pre))) e (omega (arith, w .next, d .next, e .next, c .before .before .before .before .before .before .before .before .before .before .before .before .before .before .before .pre))))
+    added-append (added-append w d (omega arith)) e (omega arith)))

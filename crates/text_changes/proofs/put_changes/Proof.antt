@@ -2,7 +2,7 @@
 use borrow.Author.Needs.{needs}
 use native.Mathlib.Omega.{arith}
 use Rattle.chip.specs.State.{named}
-use Rattle.text.proofs.Adding.{added-append}
+use Rattle.lists.proofs.Put.{added-append}
 use Rattle.text_changes.specs.Changes.{changed}
 use Rattle.text_changes.proofs.Lengths.{groups-most, colours-most}
 use Rattle.text_changes.proofs.put_changes.Statement.{statement}

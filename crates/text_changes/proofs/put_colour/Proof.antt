@@ -1,7 +1,7 @@
 -- Nothing, or the line.
 use borrow.Author.Needs.{needs}
 use mathlib.Core.Path.{sym, _∙_}
-use Rattle.text.proofs.Adding.{added-none}
+use Rattle.lists.proofs.Put.{added-none}
 use Rattle.text_changes.specs.Changes.{colourChange}
 use Rattle.text_changes.proofs.put_colour.Statement.{statement}
 use Rattle.text_changes.proofs.put_colour.Tie as tie

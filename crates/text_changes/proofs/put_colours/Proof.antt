@@ -7,7 +7,7 @@ use denote.Ref.{now}
 use lib.ListN.{length}
 use Rattle.chip.specs.State.{named}
 use Rattle.chip.specs.Palette.{entry}
-use Rattle.text.specs.Adding.{Added}
+use Rattle.lists.specs.Put.{Added}
 use Rattle.text_registers.proofs.Growing.{added-start, room-next, added-next}
 use Rattle.text_changes.specs.Changes.{colourChange, coloursTo}
 use Rattle.text_changes.proofs.Lengths.{colour-most}

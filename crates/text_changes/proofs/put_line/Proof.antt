@@ -1,8 +1,7 @@
 -- The name, and behind it the two bytes.
 use borrow.Author.Needs.{needs}
 use native.Mathlib.Omega.{arith}
-use Rattle.text.proofs.Adding.{added-append}
-use Rattle.text_steps.proofs.Lengths.{name-most}
+use Rattle.text.proofs.Adding.{then-in}
 use Rattle.text_changes.specs.Changes.{registerLine}
 use Rattle.text_changes.proofs.put_line.Statement.{statement}
 use Rattle.text_changes.proofs.put_line.Tie as tie
@@ -18,9 +17,8 @@ put-line-spec =
     (λ c κs. search needs)
     (λ c κs. search needs)
     (λ c. search needs)
-    (λ c κs. let a = c .before .before .before .before .before .before .before .before .before .before .before .args in omega (arith, name-most (a .g) (a .i)))
+    (λ c κs. search needs)
     (λ c. search needs)
-    (λ c. let a = c .before .before .before .before .before .before .before .before .before .before .before .before .before .before .args in
-    let n = c .before .before .before .before .before .before .before .before .before .before .before .put-name .ensures in
-    let t = rw (c .before .before .before .before .before .before .before .before .digit .ensures, c .before .before .before .before .before .before .before .digit2 .ensures, c .before .before .before .before .before .before .digit3 .ensures, c .before .before .before .before .before .digit4 .ensures) at (c .before .before .put .ensures) in
-    added-append n t (omega (arith, name-most (a .g) (a .i)))))
+    (λ c. let n = c .before .before .before .before .before .before .before .before .before .before .before .add-name .ensures .here (omega arith) in
+    let t = rw (c .before .before .before .before .before .before .before .before .digit .ensures, c .before .before .before .before .before .before .before .digit2 .ensures, c .before .before .before .before .before .before .digit3 .ensures, c .before .before .before .before .before .digit4 .ensures) at (c .before .before .add .ensures) in
+    then-in 7 n t (omega arith)))

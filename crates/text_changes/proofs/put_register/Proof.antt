@@ -1,7 +1,7 @@
 -- Nothing, or the line.
 use borrow.Author.Needs.{needs}
 use borrow.Author.Tests.{eq-eqb, ne-eqb}
-use Rattle.text.proofs.Adding.{added-none}
+use Rattle.lists.proofs.Put.{added-none}
 use Rattle.text_changes.specs.Changes.{registerChange}
 use Rattle.text_changes.proofs.put_register.Statement.{statement}
 use Rattle.text_changes.proofs.put_register.Tie as tie

@@ -6,7 +6,7 @@ use borrow.Author.Needs.{needs}
 use denote.Ref.{now}
 use lib.ListN.{length}
 use Rattle.chip.specs.State.{named}
-use Rattle.text.specs.Adding.{Added}
+use Rattle.lists.specs.Put.{Added}
 use Rattle.text_registers.proofs.Growing.{added-start, room-next, added-next}
 use Rattle.text_changes.specs.Changes.{registerAt, registersTo}
 use Rattle.text_changes.proofs.Lengths.{register-most}

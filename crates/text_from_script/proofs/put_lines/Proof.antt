@@ -6,11 +6,10 @@ use mathlib.Core.Logic.{⊎-elim}
 use native.Mathlib.Omega.{arith}
 use borrow.Author.Needs.{needs}
 use lib.ListN.{length}
-use Rattle.text.specs.Adding.{Added}
-use Rattle.text.proofs.Adding.{added-none, added-length}
+use Rattle.lists.specs.Put.{Added}
+use Rattle.lists.proofs.Put.{added-none, added-length}
 use Rattle.script.specs.Reader.{nextOf}
 use Rattle.script.proofs.Reading.{accepted-handed}
-use Rattle.text_steps.proofs.Lengths.{line-most}
 use Rattle.text_from_script.specs.Show.{textTo}
 use Rattle.text_from_script.proofs.Showing.{text-most, text-start, text-step, lines-put}
 use Rattle.text_from_script.proofs.put_lines.Statement.{statement}
@@ -35,12 +34,15 @@ put-lines-spec =
     (λ c. c .before .before .before .before .loop .inv .1)
     (λ c. let h = accepted-handed _ _ (c .before .before .before .before .before .before .before .pre .0) (c .before .before .before .before .loop .j) (omega arith) in
     absurd (⊎-elim (λ w. omega arith) (λ w. omega arith) (rw (c .before .before .nth .ensures .0 ∙ h .answer) at (c .before .match .keys2))))
-    (λ c κs. omega (arith, c .before .before .before .before .before .before .loop .inv .0 .next, text-most (c .before .before .before .before .before .before .before .before .before .args .file .now) (c .before .before .before .before .before .before .loop .j), c .before .before .before .before .before .before .loop .inv .1))
+    (λ c κs. search needs)
     (λ c. omega arith)
     (λ c. omega arith)
-    (λ c. let s : nextOf (c .before .before .before .before .before .before .before .before .before .before .before .before .args .file .now) (c .before .before .before .before .before .before .before .before .before .loop .j) ≡ _ = sym (c .before .before .before .before .before .before .before .nth .ensures .0) ∙ c .before .before .before .before .before .next .given .1 in
-    let room : c .before .before .put-step .result ≤ length (c .before .before .before .before .before .before .before .before .before .before .before .before .args .out .now) = omega (arith, c .before .before .put-step .ensures .next, line-most (c .before .before .before .before .before .next .given .0 .0), c .before .before .before .before .before .before .before .before .before .loop .inv .0 .next, text-most (c .before .before .before .before .before .before .before .before .before .before .before .before .args .file .now) (c .before .before .before .before .before .before .before .before .before .loop .j), c .before .before .before .before .before .before .before .before .before .before .before .before .pre .1) in
-    let same : length (c .before .before .before .before .before .before .before .before .before .loop .out) ≡ length (c .before .before .before .before .before .before .before .before .before .before .before .before .args .out .now) = c .before .before .before .before .before .before .before .before .before .loop .inv .1 in
-    (text-step _ _ _ _ s (c .before .before .before .before .before .before .before .before .before .loop .inv .0) (c .before .before .put-step .ensures) room, added-length (c .before .before .put-step .ensures) (omega arith) ∙ same, omega arith))
+    (λ c. let l = c .before .before .before .before .before .before .before .before .before .loop in
+    let a = c .before .before .before .before .before .before .before .before .before .before .before .before .args in
+    let s : nextOf (a .file .now) (l .j) ≡ _ = sym (c .before .before .before .before .before .before .before .nth .ensures .0) ∙ c .before .before .before .before .before .next .given .1 in
+    let few = text-most (a .file .now) (l .j) in
+    let one = c .before .before .add-step .ensures .here (omega arith) in
+    let room : c .before .before .add-step .result ≤ length (a .out .now) = omega arith in
+    (text-step _ _ _ _ s (l .inv .0) one room, added-length one (omega arith) ∙ l .inv .1, omega arith))
     (λ c. c .before .loop .inv .1)
     (λ c. let all : c .before .loop .j ≡ c .before .before .before .before .args .m = omega arith in lines-put _ _ _ (rw all at (c .before .loop .inv .0))))

@@ -5,9 +5,9 @@ use native.Mathlib.Omega.{arith}
 use borrow.Author.Needs.{needs}
 use denote.Ref.{now}
 use lib.ListN.{length}
-use Rattle.text.specs.Adding.{Added}
+use Rattle.lists.specs.Put.{Added}
 use Rattle.text_listing.specs.Adding.{commandAt, linesTo}
-use Rattle.text.proofs.Adding.{added-none, added-append, added-length}
+use Rattle.lists.proofs.Put.{added-none, added-append, added-length}
 use Rattle.text_listing.proofs.Adding.{read-most, lines-most, lines-start, lines-next}
 use Rattle.text_listing.proofs.add_lines.Statement.{statement}
 use Rattle.text_listing.proofs.add_lines.Tie as tie
@@ -35,13 +35,13 @@ add-lines-spec =
     (λ c. omega arith)
     (λ c κs. search needs)
     (λ c κs. let l = c .before .before .before .before .before .before .before .loop in
-    omega (arith, l .inv .0 .next, lines-most (now (c .before .before .before .before .before .before .before .before .before .before .args .bytes)) (l .j), l .inv .1, c .before .before .before .before .before .before .before .before .before .before .pre .1))
+    omega (arith, lines-most (now (c .before .before .before .before .before .before .before .before .before .before .args .bytes)) (l .j)))
     (λ c. omega arith)
     (λ c. omega arith)
     (λ c. let l = c .before .before .before .before .before .before .before .before .before .before .loop in
     let s = c .before .before .before .before .before .before .before .before .before .before .before .before .before in
     let one = rw (c .before .before .before .before .command-of .ensures) at (c .before .before .add-read .ensures) in
-    let room : c .before .before .add-read .result ≤ length (now (s .args .out)) = omega (arith, one .next, read-most (commandAt (now (s .args .bytes)) (4 * l .j)), l .inv .0 .next, lines-most (now (s .args .bytes)) (l .j), s .pre .1) in
+    let room : c .before .before .add-read .result ≤ length (now (s .args .out)) = omega (arith, read-most (commandAt (now (s .args .bytes)) (4 * l .j)), lines-most (now (s .args .bytes)) (l .j)) in
     let same : length (l .out) ≡ length (now (s .args .out)) = l .inv .1 in
     (rw (lines-next (now (s .args .bytes)) (l .j)) (added-append (l .inv .0) one room), added-length one (omega arith) ∙ same, omega arith))
     (λ c. c .before .loop .inv .1)

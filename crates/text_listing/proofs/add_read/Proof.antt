@@ -1,6 +1,6 @@
 -- A command has its line, and four bytes of no known form have none.
 use borrow.Author.Needs.{needs}
-use Rattle.text.proofs.Adding.{added-none}
+use Rattle.lists.proofs.Put.{added-none}
 use Rattle.text_listing.proofs.add_read.Statement.{statement}
 use Rattle.text_listing.proofs.add_read.Tie as tie
 

@@ -2,7 +2,7 @@
 use borrow.Author.Needs.{needs}
 use native.Mathlib.Omega.{arith}
 use denote.Ref.{now}
-use Rattle.text.proofs.Adding.{added-append}
+use Rattle.lists.proofs.Put.{added-append}
 use Rattle.text_listing.proofs.Adding.{lines-most}
 use Rattle.text_listing.proofs.Listing.{header-most}
 use Rattle.text_listing.proofs.add_text.Statement.{statement}
@@ -14,10 +14,10 @@ add-text-spec =
     (tie.spec
     (λ c κs. search needs)
     (λ c κs. let s = c .before .before .before .before .before .before .before in
-    (s .pre .0, omega (arith, c .before .before .before .add-header .ensures .next, header-most (s .args .steps) (s .args .k), s .pre .1)))
+    (s .pre .0, omega (arith, header-most (s .args .steps) (s .args .k))))
     (λ c. search needs)
     (λ c. let s = c .before .before .before .before .before .before .before .before .before .before in
     let front = c .before .before .before .before .before .before .add-header .ensures in
     let rest = c .before .before .add-lines .ensures in
     added-append front rest
-    (omega (arith, front .next, rest .next, header-most (s .args .steps) (s .args .k), lines-most (now (s .args .bytes)) (s .args .k), s .pre .1))))
+    (omega (arith, header-most (s .args .steps) (s .args .k), lines-most (now (s .args .bytes)) (s .args .k)))))

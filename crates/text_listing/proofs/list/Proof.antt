@@ -93,7 +93,7 @@ list-spec =
     (λ c. search needs)
     returns-2
     (λ c κs. search needs)
-    (λ c κs. (omega (arith, few (c .before .before .before .before .before) .room, c .before .before .before .before .before .before .before .before .before .translate .kept .1 .0), omega (arith, c .before .before .before .if2 .left)))
+    (λ c κs. (omega (arith, few (c .before .before .before .before .before) .room), omega arith))
     (λ c. search needs)
     (λ c. search needs)
     returns-3

@@ -2,7 +2,7 @@
 use borrow.Author.Needs.{needs}
 use native.Mathlib.Omega.{arith}
 use Rattle.chip.specs.State.{named}
-use Rattle.text.proofs.Adding.{added-append}
+use Rattle.lists.proofs.Put.{added-append}
 use Rattle.text_changes.proofs.Lengths.{changed-most}
 use Rattle.text_played.specs.Told.{fresh, tale}
 use Rattle.text_played.proofs.Lengths.{line-most}

@@ -1,7 +1,8 @@
 -- The name, the colon, where, and why, one behind the other.
 use borrow.Author.Needs.{needs}
 use native.Mathlib.Omega.{arith}
-use Rattle.text.proofs.Adding.{added-append}
+use Rattle.lists.proofs.Put.{added-append}
+use Rattle.text.proofs.Adding.{then-in}
 use Rattle.script.specs.Numbers.{ofRefusal}
 use Rattle.text_refusals.specs.Complaint.{complaint}
 use Rattle.text_refusals.proofs.Lengths.{place-most, reason-most}
@@ -15,23 +16,16 @@ put-complaint-spec =
     (tie.spec
     (λ c κs. search needs)
     (λ c. search needs)
-    (λ c κs. omega (arith, c .before .before .before .before .put .ensures .next, c .before .before .before .before .before .before .before .before .pre))
-    (λ c κs. omega (arith, c .before .before .before .before .before .before .before .before .put .ensures .next, c .before .before .before .put2 .ensures .next, c .before .before .before .before .before .before .before .before .before .before .before .before .pre))
     (λ c κs. search needs)
-    (λ c κs. omega (arith, c .before .before .before .before .before .before .before .before .before .before .before .before .before .put .ensures .next, c .before .before .before .before .before .before .before .before .put2 .ensures .next, c .before .before .before .before .put-place .ensures .next, place-most (c .before .before .before .before .before .before .before .before .before .before .before .before .before .before .before .before .before .args .r), c .before .before .before .before .before .before .before .before .before .before .before .before .before .before .before .before .before .pre))
+    (λ c κs. search needs)
+    (λ c κs. search needs)
+    (λ c κs. omega (arith, place-most (c .before .before .before .before .before .before .before .before .before .before .before .before .before .before .before .before .before .args .r)))
     (λ c. search needs)
     (λ c. let r = c .before .before .before .before .before .before .before .before .before .before .before .before .before .before .before .before .before .before .before .before .args .r in
-    let room = c .before .before .before .before .before .before .before .before .before .before .before .before .before .before .before .before .before .before .before .before .pre in
     let few = place-most r in
     let short = reason-most (ofRefusal r .number) in
-    let n = c .before .before .before .before .before .before .before .before .before .before .before .before .before .before .before .before .put .ensures in
-    let k = c .before .before .before .before .before .before .before .before .before .before .before .put2 .ensures in
-    let p = c .before .before .before .before .before .before .before .put-place .ensures in
+    let n = c .before .before .before .before .before .before .before .before .before .before .before .before .before .before .before .before .add .ensures .here (omega arith) in
+    let k = then-in 2 n (c .before .before .before .before .before .before .before .before .before .before .before .add2 .ensures) (omega arith) in
+    let p = added-append k (c .before .before .before .before .before .before .before .put-place .ensures) (omega arith) in
     let e = rw (c .before .before .before .number .ensures) at (c .before .before .put-reason .ensures) in
-    added-append
-    (added-append
-    (added-append n k (omega (arith, n .next, k .next, room)))
-    p
-    (omega (arith, n .next, k .next, p .next, room, few)))
-    e
-    (omega (arith, n .next, k .next, p .next, e .next, room, few, short))))
+    added-append p e (omega arith)))

@@ -5,7 +5,8 @@ use borrow.Author.Needs.{needs}
 use borrow.Author.Tests.{not-true, not-false}
 use Rattle.chip_registers.specs.Groups.{groupAt}
 use Rattle.chip.specs.State.{named}
-use Rattle.text.proofs.Adding.{added-none, added-append}
+use Rattle.lists.proofs.Put.{added-none, added-append}
+use Rattle.text.proofs.Adding.{then-in}
 use Rattle.text_steps.proofs.Lengths.{name-most}
 use Rattle.text_registers.specs.Line.{across, line}
 use Rattle.text_registers.specs.Text.{lineAt}
@@ -25,23 +26,18 @@ add-line-spec =
     (λ c. let any = rw (c .before .before .before .group-at .ensures, c .before .before .count-across .ensures .0) at (c .before .any-listed .ensures) in
     rw (sym any ∙ not-true _ (c .if1 .taken)) (added-none _ _))
     (λ c κs. search needs)
-    (λ c κs. let a = c .before .before .before .before .before .before .before .before .before .before .args in (omega arith, omega (arith, name-most (a .g) (a .i))))
+    (λ c κs. (omega arith, omega arith))
     (λ c. search needs)
-    (λ c κs. let a = c .before .before .before .before .before .before .before .before .before .before .before .before .before .before .before .args in
-    omega (arith, name-most (a .g) (a .i), cells-length (c .before .before .before .before .before .before .before .before .before .before .before .before .before .group-at .result) (named (a .chip)) (a .i) (c .before .before .before .before .before .before .before .before .before .before .before .before .count-across .result)))
+    (λ c κs. search needs)
     (λ c. search needs)
     -- the line
     (λ c. let a = c .before .before .before .before .before .before .before .before .before .before .before .before .before .before .before .before .before .before .args in
     let group = c .before .before .before .before .before .before .before .before .before .before .before .before .before .before .before .before .group-at .ensures in
     let across-it = c .before .before .before .before .before .before .before .before .before .before .before .before .before .before .before .count-across .ensures in
     let any = rw (group, across-it .0) at (c .before .before .before .before .before .before .before .before .before .before .before .before .before .before .any-listed .ensures) in
-    let name = c .before .before .before .before .before .before .before .before .before .before .before .put-name .ensures in
+    let name = c .before .before .before .before .before .before .before .before .before .before .before .add-name .ensures .here (omega arith) in
     let cells = rw (group, across-it .0) at (c .before .before .before .before .before .before .before .add-cells .ensures) in
-    let end = c .before .before .add .ensures in
     let seven = name-most (a .g) (a .i) in
     let all = cells-length (groupAt (a .g)) (named (a .chip)) (a .i) (across (a .g)) in
     rw (sym any ∙ not-false _ (c .before .before .before .before .before .before .before .before .before .before .before .before .before .if1 .left))
-    (added-append
-    (added-append name cells (omega arith))
-    end
-    (omega arith))))
+    (then-in 1 (added-append name cells (omega arith)) (c .before .before .add .ensures) (omega arith))))

@@ -2,7 +2,7 @@
 use native.Mathlib.Omega.{arith}
 use borrow.Author.Needs.{needs}
 use Rattle.chip.specs.State.{named}
-use Rattle.text.proofs.Adding.{added-append}
+use Rattle.text.proofs.Adding.{then-in}
 use Rattle.text_registers.specs.Line.{across}
 use Rattle.text_registers.specs.Text.{paragraph}
 use Rattle.text_registers.proofs.Lengths.{across-most, lines-most}
@@ -16,10 +16,8 @@ add-paragraph-spec =
     (tie.spec
     (λ c κs. search needs)
     (λ c. search needs)
-    (λ c κs. let a = c .before .before .before .before .before .before .before .args in
-    omega (arith, lines-most (a .g) (named (a .chip)) (across (a .g)), across-most (a .g)))
+    (λ c κs. search needs)
     (λ c. search needs)
     (λ c. let a = c .before .before .before .before .before .before .before .before .before .before .args in
-    let lines = c .before .before .before .before .before .before .before .add-lines .ensures in
-    let end = c .before .before .add .ensures in
-    added-append lines end (omega (arith, lines-most (a .g) (named (a .chip)) (across (a .g)), across-most (a .g)))))
+    then-in 1 (c .before .before .before .before .before .before .before .add-lines .ensures) (c .before .before .add .ensures)
+    (omega (arith, lines-most (a .g) (named (a .chip)) (across (a .g)), across-most (a .g)))))

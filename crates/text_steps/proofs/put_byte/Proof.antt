@@ -1,4 +1,5 @@
 -- A space and two digits.
+use native.Mathlib.Omega.{arith}
 use borrow.Author.Needs.{needs}
 use Rattle.text_steps.proofs.put_byte.Statement.{statement}
 use Rattle.text_steps.proofs.put_byte.Tie as tie
@@ -12,4 +13,4 @@ put-byte-spec =
     (λ c. search needs)
     (λ c κs. search needs)
     (λ c. search needs)
-    (λ c. rw (c .before .before .before .before .before .before .digit .ensures, c .before .before .before .before .before .digit2 .ensures) at (c .before .before .put .ensures)))
+    (λ c. rw (c .before .before .before .before .before .before .digit .ensures, c .before .before .before .before .before .digit2 .ensures) at (c .before .before .add .ensures .here (omega arith))))

@@ -1,7 +1,7 @@
 -- The step's text, and the line feed behind it.
 use native.Mathlib.Omega.{arith}
 use borrow.Author.Needs.{needs}
-use Rattle.text.proofs.Adding.{added-append}
+use Rattle.text.proofs.Adding.{then-in}
 use Rattle.text_steps.proofs.Lengths.{text-most}
 use Rattle.text_steps.proofs.put_line.Statement.{statement}
 use Rattle.text_steps.proofs.put_line.Tie as tie
@@ -12,8 +12,6 @@ put-line-spec =
     (tie.spec
     (λ c κs. search needs)
     (λ c. search needs)
-    (λ c κs. omega (arith, text-most (c .before .before .before .before .before .before .before .args .step), c .before .before .before .before .put-step .ensures .next, c .before .before .before .before .before .before .before .pre))
+    (λ c κs. search needs)
     (λ c. search needs)
-    (λ c. let t = c .before .before .before .before .before .before .before .put-step .ensures in
-    let e = c .before .before .put .ensures in
-    added-append t e (omega (arith, t .next, e .next, text-most (c .before .before .before .before .before .before .before .before .before .before .args .step), c .before .before .before .before .before .before .before .before .before .before .pre))))
+    (λ c. then-in 1 (c .before .before .before .before .before .before .before .put-step .ensures) (c .before .before .add .ensures) (omega (arith, text-most (c .before .before .before .before .before .before .before .before .before .before .args .step)))))

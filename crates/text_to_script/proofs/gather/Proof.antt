@@ -30,9 +30,9 @@ gather-spec =
     (λ c κs. search needs)
     (λ c. let a = c .before .before .before in going-start (now (a .args .text)) (now (a .args .steps)) (a .pre) (c .mark-size .ensures))
     (λ c κs. search needs)
-    (λ c. omega (arith, c .line-end .ensures .after))
-    (λ c. omega (arith, c .line-end .ensures .after, c .line-end .ensures .within))
-    (λ c. omega (arith, c .line-end .ensures .after, c .line-end .ensures .within))
+    (λ c. omega arith)
+    (λ c. omega arith)
+    (λ c. omega arith)
     (λ c κs. search needs)
     (λ c κs. search needs)
     (λ c κs. search needs)
@@ -45,9 +45,9 @@ gather-spec =
     (λ c κs. let l = c .before .before .before .before .before .before .before .before .loop in
     let fine : isFine (verdict (c .before .before .before .before .read-line .result) (l .n)) ≡ true = ap isFine (sym (c .before .before .before .judge .ensures)) ∙ sym (c .before .before .is-fine .ensures) ∙ not-false _ (c .before .if1 .left) in
     going-room (now (c .before .before .before .before .before .before .before .before .before .before .before .before .args .text)) (l .steps) (l .from) (l .k) (l .n) (l .inv) (c .before .before .before .before .before .before .line-end .result) (c .before .before .before .before .before .before .line-end .ensures) (c .before .before .before .before .read-line .result) (c .before .before .before .before .read-line .ensures) fine)
-    (λ c. omega (arith, c .before .before .before .before .before .before .before .before .before .before .before .loop .inv .counted, c .before .before .before .before .before .before .before .before .before .before .before .loop .inv .within))
-    (λ c. omega (arith, c .before .before .before .before .before .before .before .before .before .line-end .ensures .within))
-    (λ c. omega (arith, c .before .before .before .before .before .before .before .before .before .line-end .ensures .after, c .before .before .before .before .before .before .before .before .before .line-end .ensures .within))
+    (λ c. omega arith)
+    (λ c. omega arith)
+    (λ c. omega arith)
     (λ c. let l = c .before .before .before .before .before .before .before .before .before .before .before .loop in
     let fine : isFine (verdict (c .before .before .before .before .before .before .before .read-line .result) (l .n)) ≡ true = ap isFine (sym (c .before .before .before .before .before .before .judge .ensures)) ∙ sym (c .before .before .before .before .before .is-fine .ensures) ∙ not-false _ (c .before .before .before .before .if1 .left) in
     going-on (now (c .before .before .before .before .before .before .before .before .before .before .before .before .before .before .before .args .text)) (l .steps) (l .from) (l .k) (l .n) (l .inv) (c .before .before .before .before .before .before .before .before .before .line-end .result) (c .before .before .before .before .before .before .before .before .before .line-end .ensures) (c .before .before .before .before .before .before .before .read-line .result) (c .before .before .before .before .before .before .before .read-line .ensures) fine (c .before .before .keep .ensures))

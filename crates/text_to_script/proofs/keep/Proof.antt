@@ -4,8 +4,6 @@ use denote.Ref.{now}
 use lib.ListN.{length}
 use native.Mathlib.Omega.{arith}
 use borrow.Author.Needs.{needs}
-use Rattle.text.proofs.Adding.{added-fits}
-use Rattle.script_steps.specs.Step.{bytesOf}
 use Rattle.script_steps.proofs.Codec.{bytes-length}
 use Rattle.text_to_script.proofs.Gathering.{kept-pass, kept-other, kept-step}
 use Rattle.text_to_script.proofs.keep.Statement.{statement}
@@ -26,6 +24,6 @@ keep-spec =
     (λ c. let a = c .before .before .before .before .before .before .before .before .before .before .args in
     let s = c .before .before .before .before .before .before .before .line .given .0 .0 in
     let room : a .n + 6 ≤ length (now (a .steps)) = rw (c .before .before .before .before .before .before .before .line .given .1) at (c .before .before .before .before .before .before .before .before .before .before .pre) in
-    rw (c .before .before .before .before .before .before .before .line .given .1) (kept-step (now (a .steps)) (a .n) s room
-    (added-fits (now (a .steps)) (a .n) (bytesOf s) (omega (arith, bytes-length s, room)) (rw (c .before .before .before .before .before .to-bytes .ensures) at (c .before .before .add .ensures .0)) (rw (c .before .before .before .before .before .to-bytes .ensures) at (c .before .before .add .ensures .1)))))
+    let six = rw (c .before .before .before .before .before .to-bytes .ensures) at (c .before .before .add .ensures) in
+    rw (c .before .before .before .before .before .before .before .line .given .1) (kept-step (now (a .steps)) (a .n) s room (six .here (omega (arith, bytes-length s)))))
     (λ c. let a = c .before .before .before .args in rw (c .enum-told2 .given .1) (kept-other (now (a .steps)) (a .n))))

@@ -1,7 +1,7 @@
 -- By the answer.
 use denote.Ref.{now}
 use borrow.Author.Needs.{needs}
-use Rattle.text.proofs.Adding.{added-none}
+use Rattle.lists.proofs.Put.{added-none}
 use Rattle.text_to_script.specs.Complaint.{complaint}
 use Rattle.text_to_script.proofs.put_complaint.Statement.{statement}
 use Rattle.text_to_script.proofs.put_complaint.Tie as tie

@@ -1,11 +1,7 @@
 -- The word and the number.
 use native.Mathlib.Omega.{arith}
-use denote.Ref.{now}
 use borrow.Author.Needs.{needs}
-use Rattle.text.specs.Ascii.{ascii}
-use Rattle.text_refusals.specs.Complaint.{reason}
-use Rattle.text_refusals.proofs.Lengths.{reason-most}
-use Rattle.text.proofs.Adding.{added-fits, then-in}
+use Rattle.text.proofs.Adding.{then-in}
 use Rattle.text_to_script.proofs.put_refusal.Statement.{statement}
 use Rattle.text_to_script.proofs.put_refusal.Tie as tie
 
@@ -17,6 +13,4 @@ put-refusal-spec =
     (λ c κs. search needs)
     (λ c κs. search needs)
     (λ c. search needs)
-    (λ c. let a = c .before .before .before .before .before .before .before .before .before .before .args in
-    let w = added-fits (now (a .out)) (a .at) (ascii "compose: ") (omega (arith, c .before .before .before .before .before .before .before .before .before .before .pre)) (c .before .before .before .before .before .before .add .ensures .0) (c .before .before .before .before .before .before .add .ensures .1) in
-    then-in 91 (reason (a .number)) (reason-most (a .number)) w (omega (arith, w .next, c .before .before .before .before .before .before .before .before .before .before .pre)) (c .before .before .add-reason .ensures .0) (c .before .before .add-reason .ensures .1)))
+    (λ c. then-in 91 (c .before .before .before .before .before .before .add .ensures .here (omega arith)) (c .before .before .add-reason .ensures) (omega arith)))

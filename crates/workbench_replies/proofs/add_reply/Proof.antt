@@ -2,7 +2,8 @@
 use borrow.Author.Needs.{needs}
 use native.Mathlib.Omega.{arith}
 use mathlib.Core.List.{append-assoc}
-use Rattle.text.proofs.Adding.{added-none, added-append}
+use Rattle.lists.proofs.Put.{added-none}
+use Rattle.text.proofs.Adding.{then-in}
 use Rattle.workbench_replies.specs.Reply.{replyText}
 use Rattle.workbench_replies.proofs.add_reply.Statement.{statement}
 use Rattle.workbench_replies.proofs.add_reply.Tie as tie
@@ -14,17 +15,19 @@ add-reply-spec =
     (tie.spec
     -- the needs of a number
     (λ c. search needs)
+    (λ c. search needs)
     (λ c κs. search needs)
     (λ c. search needs)
-    (λ c κs. omega arith)
+    (λ c κs. search needs)
     -- of a number and a byte
     (λ c. search needs)
+    (λ c. search needs)
     (λ c κs. search needs)
     (λ c. search needs)
     (λ c κs. search needs)
     (λ c κs. search needs)
     (λ c. search needs)
-    (λ c κs. omega arith)
+    (λ c κs. search needs)
     -- of a colour
     (λ c. search needs)
     (λ c. search needs)
@@ -53,22 +56,22 @@ add-reply-spec =
     (λ c κs. search needs)
     -- what stands there: a number and a line feed
     (λ c. search needs)
-    (λ c. rw (c .before .before .before .before .before .before .before .before .before .before .reply .given .1) (added-append (c .before .before .before .before .before .before .before .add-number .ensures .0) (c .before .before .add .ensures) (omega arith)))
+    (λ c. rw (c .before .before .before .before .before .before .before .before .before .before .reply .given .1) (then-in 1 (c .before .before .before .before .before .before .before .add-decimal .ensures .here (omega arith)) (c .before .before .add .ensures) (omega arith)))
     -- a number, a space, a byte and a line feed
     (λ c. search needs)
     (λ c. rw (c .before .before .before .before .before .before .before .before .before .before .before .before .reply2 .given .1, append-assoc)
-    (added-append (c .before .before .before .before .before .before .before .before .before .add-number2 .ensures .0) (rw (c .before .before .before .before .before .digit2 .ensures, c .before .before .before .before .before .before .digit .ensures) at (c .before .before .add2 .ensures)) (omega arith)))
+    (then-in 4 (c .before .before .before .before .before .before .before .before .before .add-decimal2 .ensures .here (omega arith)) (rw (c .before .before .before .before .before .digit2 .ensures, c .before .before .before .before .before .before .digit .ensures) at (c .before .before .add2 .ensures)) (omega arith)))
     -- a colour
     (λ c. search needs)
-    (λ c. rw (c .before .before .before .before .before .before .before .before .before .before .before .before .reply3 .given .1) (rw (c .before .before .before .before .before .digit8 .ensures, c .before .before .before .before .before .before .digit7 .ensures, c .before .before .before .before .before .before .before .digit6 .ensures, c .before .before .before .before .before .before .before .before .digit5 .ensures, c .before .before .before .before .before .before .before .before .before .digit4 .ensures, c .before .before .before .before .before .before .before .before .before .before .digit3 .ensures) at (c .before .before .add3 .ensures)))
+    (λ c. rw (c .before .before .before .before .before .before .before .before .before .before .before .before .reply3 .given .1) (rw (c .before .before .before .before .before .digit8 .ensures, c .before .before .before .before .before .before .digit7 .ensures, c .before .before .before .before .before .before .before .digit6 .ensures, c .before .before .before .before .before .before .before .before .digit5 .ensures, c .before .before .before .before .before .before .before .before .before .digit4 .ensures, c .before .before .before .before .before .before .before .before .before .before .digit3 .ensures) at (c .before .before .add3 .ensures .here (omega arith))))
     -- all registers
     (λ c. search needs)
-    (λ c. rw (c .before .before .before .before .enum-told .given .1) (c .before .before .add-registers .ensures))
+    (λ c. rw (c .before .before .before .before .enum-told .given .1) (c .before .before .dump .ensures .here (omega arith)))
     -- the requests
     (λ c. search needs)
-    (λ c. rw (c .before .before .before .before .before .enum-told2 .given .1) (c .before .before .add4 .ensures))
+    (λ c. rw (c .before .before .before .before .before .enum-told2 .given .1) (c .before .before .add4 .ensures .here (omega arith)))
     -- nothing
     (λ c. rw (c .enum-told3 .given .1) (added-none _ _))
     -- `?` and a line feed
     (λ c. search needs)
-    (λ c. rw (c .before .before .before .before .before .enum-told4 .given .1) (c .before .before .add5 .ensures)))
+    (λ c. rw (c .before .before .before .before .before .enum-told4 .given .1) (c .before .before .add5 .ensures .here (omega arith))))
