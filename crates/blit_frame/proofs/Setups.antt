@@ -2,7 +2,7 @@
 -- The memory is the least that is allowed, 4,096 bytes.
 use Prim.Native.Nat.{ℕ}
 use mathlib.Core.Path.{_≡_, refl}
-use mathlib.Core.Bool.{Bool, true, false}
+use mathlib.Core.Bool.{false}
 use Rattle.lists.specs.Scan.{every}
 use Rattle.blit_raster.specs.Raster.{usesSource, usesPattern}
 use Rattle.blit_frame.specs.declared.Transfer.{Transfer}

@@ -2,7 +2,7 @@
 -- statement, `requests-hold`, in proofs/Holding. A case has the number of its request times 100, and its own.
 use Prim.Native.Nat.{ℕ, _+_, _*_}
 use mathlib.Core.List.{List, [], _∷_}
-use Rattle.chip_registers.specs.declared.Group.the-variants.{Cr, Sr, Gr, Xr, Ar}
+use Rattle.chip_registers.specs.declared.Group.the-variants.{Sr, Gr, Xr, Ar}
 use Rattle.script_steps.specs.declared.Step.the-variants.{Set, Field, Colour}
 use Rattle.cases.specs.Cases.{Case, case, gets, refuses, reads, is, chip, commands, answers}
 

@@ -2,10 +2,9 @@
 -- to red and keeps the held bytes; 3C8h reads the current index, and 3C7h PALSTATE, which chapter 13 gives as 3 where the read
 -- index was written last and as 0 where the write index was. No other access changes PALSTATE, and after a reset it is 0.
 use Prim.Native.Nat.{ℕ, _+_, _%_}
-use native.Mathlib.Omega.{arith}
-use mathlib.Core.Bool.{Bool, true, false, cond, not, _||_}
+use mathlib.Core.Bool.{Bool, true, false, cond, not}
 use mathlib.Core.Path.{_≡_, refl, ap, _∙_}
-use mathlib.Core.List.{List, [], _∷_}
+use mathlib.Core.List.{[], _∷_}
 use lib.Dec.{eqb}
 use borrow.Author.Tests.{ne-eqb}
 use Rattle.lists.specs.Bits.{isSet}
@@ -23,7 +22,7 @@ use Rattle.chip.specs.Reset.{reset}
 use Rattle.chip.specs.Reach.{fresh}
 use Rattle.chip.specs.declared.Chip.{Chip}
 use Rattle.chip.specs.declared.Loading.{Loading}
-use Rattle.chip.specs.declared.access.Answer.the-variants.{Done, Closed}
+use Rattle.chip.specs.declared.access.Answer.the-variants.{Closed}
 use Rattle.chip.specs.declared.access.Wrote.{Wrote}
 use Rattle.chip.specs.declared.access.Seen.{Seen}
 use Rattle.chip.proofs.AccessLaws.{read-open, state-read}

@@ -1,7 +1,7 @@
 -- Laws of the run: its count is the least of the limit, the commands there are and those before the first refused one; a run
 -- of two lists is the run of the second from where the first left off; a larger limit extends the shorter run; and the
 -- bytes of commands run as those commands.
-use Prim.Native.Nat.{ℕ, zero, suc, _+_, _-_, _*_, _/_, _%_, _≤_, _<_, min}
+use Prim.Native.Nat.{ℕ, zero, suc, _+_, _-_, _*_, _/_, _%_, _≤_, min}
 use lib.Seq.{length-take-le}
 use native.Mathlib.Omega.{arith}
 use mathlib.Core.Bool.{Bool, true, false, cond}

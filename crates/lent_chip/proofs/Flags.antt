@@ -78,8 +78,8 @@ picture-put o v w h e = rw (low-bit o, next-bit o) (go (o / 8) (o % 4) (omega ar
         record {
           reading = rw (low-bit v, lower);
           turn = rw (next-bit v, lower);
-          picture = rw upper (omega (arith, h));
-          spare = rw (eighth v, upper) (omega (arith, h));
+          picture = rw upper (omega arith);
+          spare = rw (eighth v, upper) (omega arith);
         }
 
 -- bytes that agree in the bits agree

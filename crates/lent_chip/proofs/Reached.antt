@@ -1,6 +1,6 @@
 -- From what the code finds on its way to where a port leads, to what the definition of the access says; and from a state's
 -- bytes to bytes of any length.
-use Prim.Native.Nat.{ℕ, _/_, _%_}
+use Prim.Native.Nat.{ℕ}
 use mathlib.Core.Path.{_≡_, refl}
 use mathlib.Core.Bool.{Bool, true, false, not}
 use mathlib.Core.List.{List}

@@ -26,7 +26,6 @@ use Rattle.lent_chip.specs.Layout.{whole, view, spare}
 use Rattle.lent_chip.specs.Accesses.{Left}
 use Rattle.lent_chip.specs.Numbers.{writeTable, readTable}
 use Rattle.lent_run.specs.Run.{reasonOf, DidIn, RanIn}
-use Rattle.lent_run.specs.declared.LentRan.{LentRan}
 use Rattle.lent_run.specs.declared.LentRan.the-variants.{Ran as RanTo}
 use Rattle.lent_run.specs.declared.Turn.{Turn}
 

@@ -1,6 +1,6 @@
 -- Laws that show the definitions of a linear read and write to be the right ones: which lengths are allowed; each number of
 -- document 01, "Numbers returned", exactly when it says so; what a write leaves, as reads see it. Assumes nothing.
-use mathlib.Core.Path.{_≡_, refl, ap, _∙_}
+use mathlib.Core.Path.{_≡_, refl}
 use mathlib.Core.Bool.{Bool, true, false, cond, _&&_, false≢true, true≢false}
 use mathlib.Core.List.{List}
 use mathlib.Core.Logic.{_↔_, _≢_}
@@ -8,7 +8,7 @@ use Prim.Native.Nat.{ℕ, _%_, _≤_, _<_}
 use lib.Dec.{leb, ltb, eqb}
 use lib.ListN.{length, getD, set, length-set}
 use lib.Seq.{getD-set-same, getD-set-other}
-use borrow.Author.Tests.{le-leb, leb-true, lt-ltb, le-ltb, ltb-true, ltb-false, eq-eqb, eqb-true, eqb-false}
+use borrow.Author.Tests.{le-leb, leb-true, lt-ltb, le-ltb, ltb-false, eq-eqb, eqb-true, eqb-false}
 use Rattle.lists.proofs.Tests.{and-both, both-and}
 use Rattle.memory.specs.Memory.{lengthAllowed, byteRead, byteNumber, byteValue, byteWritten}
 

@@ -3,12 +3,12 @@
 -- request of document 02 adds. A statement is written out over the definitions of the crates' specs/, which is what has to be
 -- believed. The contracts of the functions are equations with the same definitions; they are checked where the functions are.
 -- Assumes nothing.
-use mathlib.Core.Path.{_≡_, sym, ap, _∙_}
+use mathlib.Core.Path.{_≡_, _∙_}
 use mathlib.Core.Bool.{Bool, true, false, cond}
 use mathlib.Core.List.{List}
 use mathlib.Core.Logic.{_↔_}
-use Prim.Native.Nat.{ℕ, _+_, _*_, _/_, _%_, _≤_, _<_}
-use lib.ListN.{length, take, drop, getD}
+use Prim.Native.Nat.{ℕ, _*_, _/_, _%_, _≤_, _<_}
+use lib.ListN.{length, getD}
 use Rattle.lists.specs.Bits.{bit, isSet}
 use Rattle.lists.specs.Numbers.{returned}
 use Rattle.lists.specs.Put.{put}
@@ -24,14 +24,14 @@ use Rattle.chip_registers.proofs.PrintedRows.{asPrinted, printed}
 use Rattle.chip_registers.proofs.Stretches.{has}
 use Rattle.chip_registers.proofs.WriteLaws as write-laws
 use Rattle.chip_ports.specs.Ports.{target}
-use Rattle.chip_ports.specs.declared.Target.the-variants.{Index, Data}
+use Rattle.chip_ports.specs.declared.Target.the-variants.{Index}
 use Rattle.chip_ports.proofs.PortLaws as port-laws
 use Rattle.chip_ports.proofs.PortLaws.{listedPorts, linesFrom, documented}
 use Rattle.chip.specs.State.{Named, named, join, withIndex, withPicture, withTurn}
 use Rattle.chip.specs.Names.{register, received, writableAt, portsOpen, picks3Dx, eightBit}
 use Rattle.chip.specs.Palette.{entry, rgb, shown}
 use Rattle.chip.specs.Access.{answerNumber, accessTable, portWritten, portRead, wrote}
-use Rattle.chip.specs.Reset.{reset, resetByte}
+use Rattle.chip.specs.Reset.{resetByte}
 use Rattle.chip.specs.Reach.{Reach}
 use Rattle.chip.specs.declared.Chip.{Chip}
 use Rattle.chip.specs.declared.access.Answer.the-variants.{Done}
@@ -48,7 +48,7 @@ use Rattle.memory.proofs.Laws as memory-laws
 use Rattle.blit_raster.specs.Raster.{raster}
 use Rattle.blit_raster.specs.AppendixE.{printed as printedCodes, value, inputs, zeros}
 use Rattle.blit_raster.proofs.AppendixELaws as appendix-laws
-use Rattle.blit_frame.specs.Frame.{inRange, inMemory, judgedNumber}
+use Rattle.blit_frame.specs.Frame.{inRange, judgedNumber}
 use Rattle.blit_frame.specs.declared.Transfer.{Transfer}
 use Rattle.blit_frame.proofs.Numbers as frame-laws
 use Rattle.blit_frame.proofs.Numbers.{UsedOutside}
@@ -57,7 +57,7 @@ use Rattle.blit.proofs.Laws as blit-laws
 use Rattle.script_steps.specs.Step.{legal, idle, judged}
 use Rattle.script_steps.specs.declared.Step.{Step}
 use Rattle.script_steps.specs.declared.Step.the-variants.{Set, Field}
-use Rattle.script_steps.specs.declared.StepRead.the-variants.{Good, Refused}
+use Rattle.script_steps.specs.declared.StepRead.the-variants.{Refused}
 use Rattle.script_steps.specs.declared.Fault.the-variants.{Unallowed, Idle}
 use Rattle.script_steps.proofs.Lawful as lawful
 use Rattle.script.specs.File.{blocks, checked}
@@ -96,7 +96,7 @@ use Rattle.text_from_script.specs.Show.{textOf}
 use Rattle.text_to_script.specs.Compose.{composed, leftBy as textLeftBy}
 use Rattle.text_to_script.specs.declared.Composed.the-variants.{Blocks as ComposedBlocks}
 use Rattle.text_to_script.proofs.SameFile as same-file-laws
-use Rattle.cases.specs.Cases.{allHold, numbers}
+use Rattle.cases.specs.Cases.{allHold}
 use Rattle.cases.specs.Starred.{starred}
 use Rattle.cases.proofs.Holding as starred-laws
 use Rattle.cases_requests.specs.Asked.{asked}

@@ -184,5 +184,5 @@ module _ (f : List ℕ) (m : ℕ) (bytes : Bytes f) (acc : Legal f m) where
       says-written S room (Blocks M) (record {
         legal = record { whole = list-whole; steps-legal = list-good };
         many = blocks-again;
-        fits = omega (arith, file);
+        fits = omega arith;
       })

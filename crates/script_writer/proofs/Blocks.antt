@@ -46,7 +46,7 @@ module _ (s : List ℕ) (k n : ℕ) (b b₁ b₂ : List ℕ) (hb : length b ≡ 
   unfolding front
   front-put =
       let e : 0 + length (header s k n ++ places s k) ≡ 510 = omega (arith, length-places s k) in
-      put-then b (header s k n) (places s k) 0 6 e₁ e₂ refl (omega (arith, length-places s k))
+      put-then b (header s k n) (places s k) 0 6 e₁ e₂ refl (omega arith)
       ∙ ap (λ (m : ℕ). header s k n ++ places s k ++ drop m b) e
 
   pub length-put-front : length b₂ ≡ 512

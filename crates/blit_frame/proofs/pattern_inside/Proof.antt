@@ -1,6 +1,6 @@
 -- `blit_frame::pattern_inside` meets its contract, where its first byte and its 64 do not tell, by the lines. The loop's
 -- invariant: the answer from this line on is the whole answer. Assumes nothing.
-use Prim.Native.Nat.{ℕ, _-_, _≤_, _<_}
+use Prim.Native.Nat.{ℕ, _-_, _<_}
 use mathlib.Core.Path.{_≡_, sym, _∙_}
 use mathlib.Core.Bool.{Bool}
 use lib.Dec.{ltb}
@@ -11,8 +11,7 @@ use borrow.Author.Tests.{not-true, not-false}
 use Rattle.lists.specs.Scan.{every}
 use Rattle.lists.proofs.Scan.{every-more, every-stop, every-none}
 use Rattle.blit_frame.specs.declared.Transfer.{Transfer}
-use Rattle.blit_frame.specs.Frame.{everyByte, patternPlace, patternLine}
-use Rattle.blit_frame.specs.Lines.{lineLow}
+use Rattle.blit_frame.specs.Frame.{everyByte, patternPlace}
 use Rattle.blit_frame.proofs.Areas.{line-fits, pattern-all, pattern-begins-out, pattern-line-in, pattern-line-out, line-low-is, pattern-line-is}
 use Rattle.blit_frame.proofs.pattern_inside.Statement.{statement}
 use Rattle.blit_frame.proofs.pattern_inside.Tie as tie

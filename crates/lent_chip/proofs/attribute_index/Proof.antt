@@ -11,7 +11,7 @@ use Rattle.lent_chip.proofs.attribute_index.Tie as tie
 
 add-result : tie.Need-add-result
 unfolding indexKept
-add-result c = omega (arith, c .before .before .index-kept .ensures)
+add-result c = omega arith
 
 pub attribute-index-spec : {M : Type 1} → statement M
 attribute-index-spec =

@@ -15,4 +15,4 @@ place-spec =
     (λ c κs. search needs)
     (λ c κs. search needs)
     (λ c. search needs)
-    (λ c. let below : start (regionOf (c .before .before .args .g)) + slotOf (c .before .before .args .g) (c .before .before .args .i) < 2573 = place-below (c .before .before .args .g) (c .before .before .args .i) (omega arith) in (omega (arith, c .before .base .ensures .0, c .offset .ensures .0), omega (arith, c .before .base .ensures .0, c .offset .ensures .0))))
+    (λ c. let below : start (regionOf (c .before .before .args .g)) + slotOf (c .before .before .args .g) (c .before .before .args .i) < 2573 = place-below (c .before .before .args .g) (c .before .before .args .i) (omega arith) in (omega arith, omega arith)))

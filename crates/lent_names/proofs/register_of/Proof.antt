@@ -1,7 +1,6 @@
 -- Another length is refused, then a number that no group has.
 use borrow.Author.Tests.{eq-eqb, ne-eqb, lt-ltb, le-ltb}
 use borrow.Author.Needs.{needs}
-use native.Mathlib.Omega.{arith}
 use Rattle.lent_names.proofs.register_of.Statement.{statement}
 use Rattle.lent_names.proofs.register_of.Tie as tie
 

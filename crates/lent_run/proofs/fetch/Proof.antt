@@ -1,5 +1,4 @@
 -- The length is right, so the access is answered.
-use mathlib.Core.Path.{refl}
 use Rattle.lent_run.proofs.Turns.{fetched}
 use borrow.Author.Needs.{needs}
 use Rattle.lent_run.proofs.fetch.Statement.{statement}

@@ -1,6 +1,5 @@
 -- By the number.
 use borrow.Author.Tests.{ne-eqb}
-use borrow.Author.Needs.{needs}
 use Rattle.lent_run.proofs.reason_of.Statement.{statement}
 use Rattle.lent_run.proofs.reason_of.Tie as tie
 

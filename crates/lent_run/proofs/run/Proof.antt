@@ -1,5 +1,4 @@
 -- Another length is refused; on a state the commands are run.
-use mathlib.Core.Path.{_∙_}
 use borrow.Author.Tests.{eq-eqb, ne-eqb}
 use Rattle.lent_chip.proofs.Reached.{left-held, left-kept}
 use Rattle.lent_run.proofs.Numbers.{run-answered}

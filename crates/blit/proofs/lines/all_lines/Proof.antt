@@ -66,7 +66,7 @@ all-lines-spec =
     one-line-requires
     (λ c.
     let b = c .before .before .before .before .before .before .before .before .before .before .before .before .before .before .before .before .before .before .before .before in
-    omega (arith, in-ranges (length (b .args .mem .now)) (b .args .t) (b .pre .0) .low))
+    omega arith)
     (λ c. omega arith)
     loop-again
     (λ c. search needs)

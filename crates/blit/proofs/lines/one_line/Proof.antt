@@ -8,7 +8,7 @@ use native.Mathlib.Omega.{arith}
 use borrow.Author.Needs.{needs}
 use Rattle.blit_raster.specs.Raster.{usesSource}
 use Rattle.blit_frame.specs.Lines.{lineLow}
-use Rattle.blit.specs.Working.{linesBelow, sourceLow, sourceSpan, patternFirst}
+use Rattle.blit.specs.Working.{sourceLow, sourceSpan, patternFirst}
 use Rattle.blit.proofs.Rows.{sizes, in-ranges, lowest-line, destination-above, source-above, source-close, pattern-low, destination-fits, source-fits, pattern-fits, line-done}
 use Rattle.blit.proofs.lines.one_line.Statement.{statement}
 use Rattle.blit.proofs.lines.one_line.Tie as tie
