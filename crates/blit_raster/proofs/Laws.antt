@@ -40,7 +40,7 @@ unfolding number
 number-small zero f h = omega arith
 number-small (suc n) f h =
     let l = number-small n (λ i. f (suc i)) (λ i. h (suc i)) in
-    omega (arith, h 0, pow-suc 2 n)
+    omega (arith, h 0)
 
 pub bit-number : (n : ℕ) (f : ℕ → ℕ) → ((i : ℕ) → f i < 2) → (i : ℕ) → i < n → bit i (number n f) ≡ f i
 unfolding number
@@ -56,7 +56,7 @@ unfolding number
 number-bits zero x h = omega arith
 number-bits (suc n) x h =
     ap₂ (λ (a b : ℕ). a + 2 * b) (bit-zero x)
-    (number-same n (λ i. bit (suc i) x) (λ i. bit i (x / 2)) (λ i l. bit-suc i x) ∙ number-bits n (x / 2) (omega (arith, pow-suc 2 n)))
+    (number-same n (λ i. bit (suc i) x) (λ i. bit i (x / 2)) (λ i l. bit-suc i x) ∙ number-bits n (x / 2) (omega arith))
     ∙ omega arith
 
 -- ---- the raster byte

@@ -51,7 +51,7 @@ module _ (g : Group) (n : Named) (i : ℕ) where
         where
           go : (b : Bool) → isSet k (writableAt g n i) ≡ b → cond b (bit k 0xFF) (bit k (register g n i)) ≡ cond b (bit k 0x00) (bit k (register g n i))
               → bit k (writableOf g i) ≡ 0
-          go true e q = absurd (omega (arith, bit-complement k 0 hk (omega arith), zero-bit k))
+          go true e q = absurd (omega (arith, bit-complement k 0 hk (omega arith)))
           go false e q =
               let m : bit k (writableOf g i) ≡ 1 → ⊥ = λ t. eqb-false _ _ e (ap (bit k) now ∙ t) in
               let d : bit k (writableOf g i) < 2 = omega arith in

@@ -39,13 +39,13 @@ module _ (a b : List ℕ) (e : view a ≡ view b) where
   table (suc (suc (suc (suc (suc (suc zero)))))) i h w = sym (get-table a 6 i w) ∙ (ap (λ (c : Chip). getD (c .ar) i 0) e ∙ get-table b 6 i w)
   table (suc (suc (suc (suc (suc (suc (suc q))))))) i h w = absurd (not-seven q h)
 
-  picks3Dx : (k d : ℕ) → k < 256 → d < 3 → getD a (1792 + (3 * k + d)) 0 ≡ getD b (1792 + (3 * k + d)) 0
-  picks3Dx k zero h w =
+  colour : (k d : ℕ) → k < 256 → d < 3 → getD a (1792 + (3 * k + d)) 0 ≡ getD b (1792 + (3 * k + d)) 0
+  colour k zero h w =
       let x : 1792 + (3 * k + 0) ≡ 1792 + 3 * k = omega arith in
       rw x (ap (λ (c : Rgb). c .red) (sym (get-colour a k h) ∙ (ap (λ (c : Chip). entry (named c) k) e ∙ get-colour b k h)))
-  picks3Dx k (suc zero) h w = ap (λ (c : Rgb). c .green) (sym (get-colour a k h) ∙ (ap (λ (c : Chip). entry (named c) k) e ∙ get-colour b k h))
-  picks3Dx k (suc (suc zero)) h w = ap (λ (c : Rgb). c .blue) (sym (get-colour a k h) ∙ (ap (λ (c : Chip). entry (named c) k) e ∙ get-colour b k h))
-  picks3Dx k (suc (suc (suc d))) h w = absurd (not-lt d w)
+  colour k (suc zero) h w = ap (λ (c : Rgb). c .green) (sym (get-colour a k h) ∙ (ap (λ (c : Chip). entry (named c) k) e ∙ get-colour b k h))
+  colour k (suc (suc zero)) h w = ap (λ (c : Rgb). c .blue) (sym (get-colour a k h) ∙ (ap (λ (c : Chip). entry (named c) k) e ∙ get-colour b k h))
+  colour k (suc (suc (suc d))) h w = absurd (not-lt d w)
 
   single : (k : ℕ) → k < 13 → getD a (2560 + k) 0 ≡ getD b (2560 + k) 0
   unfolding view cell
@@ -76,7 +76,7 @@ module _ (a b : List ℕ) (e : view a ≡ view b) where
         let w : k < 2560 = ltb-true k 2560 q in
         let v : 1792 ≤ k = ltb-false k 1792 p in
         let d : 1792 + (3 * ((k - 1792) / 3) + (k - 1792) % 3) ≡ k = omega arith in
-        let t : getD a (1792 + (3 * ((k - 1792) / 3) + (k - 1792) % 3)) 0 ≡ getD b (1792 + (3 * ((k - 1792) / 3) + (k - 1792) % 3)) 0 = picks3Dx ((k - 1792) / 3) ((k - 1792) % 3) (omega arith) (omega arith) in
+        let t : getD a (1792 + (3 * ((k - 1792) / 3) + (k - 1792) % 3)) 0 ≡ getD b (1792 + (3 * ((k - 1792) / 3) + (k - 1792) % 3)) 0 = colour ((k - 1792) / 3) ((k - 1792) % 3) (omega arith) (omega arith) in
         rw d at t
     go false false p q =
         let v : 2560 ≤ k = ltb-false k 2560 q in

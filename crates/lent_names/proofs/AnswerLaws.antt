@@ -80,7 +80,7 @@ register-exact l g i = go (eqb (length l) whole) refl (ltb g 9) refl
         let w : g < 9 = ltb-true _ _ f in
         record {
           no-state = (λ h. absurd (omega arith), λ h. absurd (h n));
-          no-group = (λ h. absurd (omega arith), λ h. absurd (omega (arith, h .1)));
+          no-group = (λ h. absurd (omega arith), λ h. absurd (omega arith));
           done = (λ h. (n, omega arith), λ h. refl);
         }
     go true e false f =
@@ -89,7 +89,7 @@ register-exact l g i = go (eqb (length l) whole) refl (ltb g 9) refl
         record {
           no-state = (λ h. absurd (omega arith), λ h. absurd (h n));
           no-group = (λ h. (n, omega arith), λ h. refl);
-          done = (λ h. absurd (omega arith), λ h. absurd (omega (arith, h .1)));
+          done = (λ h. absurd (omega arith), λ h. absurd (omega arith));
         }
     go false e y f =
         let n : length l ≡ whole → ⊥ = eqb-false _ _ e in

@@ -12,8 +12,8 @@ answer-spec =
     (tie.spec
     (λ c κs. search needs)
     (λ c. search needs)
-    (λ c. (omega (arith, rw (c .before .n .given .1) at (c .before .before .before .before .before .read-input .ensures), c .before .before .before .before .before .read-input .kept .0)))
-    (λ c. sym (length-take-le _ _ (omega (arith, rw (c .before .before .n .given .1) at (c .before .before .before .before .before .before .read-input .ensures), c .before .before .before .before .before .before .read-input .kept .0))))
+    (λ c. (omega (arith, rw (c .before .n .given .1) at (c .before .before .before .before .before .read-input .ensures))))
+    (λ c. sym (length-take-le _ _ (omega (arith, rw (c .before .before .n .given .1) at (c .before .before .before .before .before .before .read-input .ensures)))))
     (λ c κs. search needs)
     (λ c. search needs)
     (λ c. search needs)

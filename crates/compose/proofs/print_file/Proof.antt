@@ -16,7 +16,7 @@ within : (c : tie.After-known-told) → 512 * c .before .c .given .0 .0 ≤ leng
 within c =
     let d = c .before .before .before .before .before .compose in
     let a = c .before .before .before .before .before .before .before .before .before .args in
-    omega (arith, composed-within (textLines (now (a .text))) 0 [] (length (now (a .file))) _ (sym (d .ensures .0) ∙ c .before .c .given .1), d .kept .1 .0)
+    omega (arith, composed-within (textLines (now (a .text))) 0 [] (length (now (a .file))) _ (sym (d .ensures .0) ∙ c .before .c .given .1))
 
 pub print-file-spec : {M : Type 1} → statement M
 print-file-spec =

@@ -24,9 +24,9 @@ run-in-spec =
     μ-loop
     (λ c. unrun (c .before .before .before .args .commands .now) (c .before .before .before .args .limit) (c .before .before .before .pre) (uneven _ _ _ (c .if1 .taken)))
     (λ c. (begun (c .before .before .before .pre) (c .if1 .left) (whole _ _ _ (c .if1 .left)), refl))
-    (λ c. omega (arith, c .before .before .loop .inv .0 .size))
+    (λ c. omega arith)
     (λ c. let (g, _) = c .before .before .loop .inv in
-    let room : c .before .before .loop .at + 3 < length (c .before .before .before .before .before .before .args .commands .now) = omega (arith, g .aligned, g .even) in
+    let room : c .before .before .loop .at + 3 < length (c .before .before .before .before .before .before .args .commands .now) = omega arith in
     out AtLimit g (limited _ _ _ _ _ _ room (c .if2 .taken)))
     (λ c. omega arith)
     (λ c. omega arith)
@@ -41,8 +41,8 @@ run-in-spec =
     (λ c. let l = c .before .before .before .before .before .before .before .before .before .before .before .before .loop in
     let a = c .before .before .before .before .before .before .before .before .before .before .before .before .before .before .before .before .args in
     let (g, _) = l .inv in
-    let room : l .at + 3 < length (a .commands .now) = omega (arith, g .aligned, g .even) in
-    let below : l .place < a .limit = omega (arith, g .below) in
+    let room : l .at + 3 < length (a .commands .now) = omega arith in
+    let below : l .place < a .limit = omega arith in
     stopped g room below (c .before .before .before .before .command .ensures) (c .before .if3 .taken) (c .reason-of .ensures))
     (λ c. omega arith)
     (λ c. omega arith)
@@ -50,8 +50,8 @@ run-in-spec =
     (λ c. let l = c .before .before .before .before .before .before .before .before .before .before .before .loop in
     let a = c .before .before .before .before .before .before .before .before .before .before .before .before .before .before .before .args in
     let (g, s) = l .inv in
-    let room : l .at + 3 < length (a .commands .now) = omega (arith, g .aligned, g .even) in
-    let below : l .place < a .limit = omega (arith, g .below) in
+    let room : l .at + 3 < length (a .commands .now) = omega arith in
+    let below : l .place < a .limit = omega arith in
     (again g room below (c .before .before .before .command .ensures) (c .if3 .left), s))
     (λ c. omega arith)
     (λ c. let (g, _) = c .before .loop .inv in

@@ -11,6 +11,6 @@ attribute-index-spec =
     tie.close
     (tie.spec
     (λ c κs. search needs)
-    (λ c. omega (arith, c .before .index .ensures))
+    (λ c. omega arith)
     (λ c. rw (c .before .index .ensures, c .if1 .taken))
     (λ c. let e = c .before .index .ensures in rw (c .if1 .left) (omega arith)))
