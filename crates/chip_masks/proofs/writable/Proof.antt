@@ -2,7 +2,7 @@
 use mathlib.Core.Path.{sym, _∙_}
 use native.Mathlib.Omega.{arith}
 use borrow.Author.Needs.{needs}
-use Rattle.chip_masks.proofs.LineLaws.{without-lines, in-line}
+use Rattle.chip_masks.proofs.LineLaws.{MSR-writable, writable-line}
 use Rattle.chip_masks.proofs.writable.Statement.{statement}
 use Rattle.chip_masks.proofs.writable.Tie as tie
 
@@ -11,7 +11,7 @@ writable-spec =
     tie.close
     (tie.spec
     (λ c κs. search needs)
-    (λ c. sym (without-lines (c .before .before .args .g) (c .before .before .args .i) (sym (c .before .table .ensures .0) ∙ c .if1 .taken)))
+    (λ c. sym (MSR-writable (c .before .before .args .g) (c .before .before .args .i) (sym (c .before .table .ensures .0) ∙ c .if1 .taken)))
     (λ c. search needs)
     (λ c. search needs)
     (λ c κs. search needs)
@@ -20,4 +20,4 @@ writable-spec =
     (λ c. search needs)
     (λ c. search needs)
     (λ c. search needs)
-    (λ c. rw (c .line .ensures, c .before .before .table .ensures .0) (in-line (c .before .before .before .args .g) (c .before .before .before .args .i) (omega arith) (omega arith))))
+    (λ c. rw (c .line .ensures, c .before .before .table .ensures .0) (writable-line (c .before .before .before .args .g) (c .before .before .before .args .i) (omega arith) (omega arith))))
