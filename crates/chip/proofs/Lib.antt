@@ -15,3 +15,4 @@ pub mod ShownLaws
 pub mod ResetLaws
 pub mod ReachLaws
 pub mod SizeLaws
+pub mod ViewLaws

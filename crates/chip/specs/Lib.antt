@@ -8,3 +8,4 @@ pub mod Attribute
 pub mod Access
 pub mod Reset
 pub mod Reach
+pub mod View

@@ -64,7 +64,7 @@ module _ (l : List ℕ) (q i v : ℕ) (h : i < size q) (w : start q + i < length
     go r k false b x y = elsewhere r k (λ e _. eqb-false r q x e)
 
 pub table-set : (s : ℕ → ℕ) (n i v : ℕ) → i < n → tab (λ k. cond (eqb k i) v (s k)) n ≡ set (tab s n) i v
-table-set s n i v h = tab-set s (λ k. cond (eqb k i) v (s k)) n i h (λ k e. rw (ne-eqb k i e)) ∙ rw (eq-eqb i i refl)
+table-set s n i v h = tab-set s (λ k. cond (eqb k i) v (s k)) n i h (λ k w e. rw (ne-eqb k i e)) ∙ rw (eq-eqb i i refl)
 
 -- one byte stored in region q
 pub view-set : (l : List ℕ) (q i v : ℕ) → i < size q → start q + i < length l → view (set l (start q + i) v) ≡ chipOf (update (cell l) q i v)
@@ -124,7 +124,7 @@ three-blue s e r g b = rw (eq-eqb (3 * e + 2) (3 * e + 2) refl)
 colours-set : (s : ℕ → ℕ) (n e r g b : ℕ) → e < n → tab (colourAt (three s e r g b)) n ≡ set (tab (colourAt s) n) e (rgb r g b)
 colours-set s n e r g b h =
     tab-set (colourAt s) (colourAt (three s e r g b)) n e h
-    (λ k d. let z : three s e r g b (3 * k) ≡ s (3 * k) = simp add-zero at (beside s e r g b k 0 d (omega arith)) in rw (z, beside s e r g b k 1 d (omega arith), beside s e r g b k 2 d (omega arith)))
+    (λ k w d. let z : three s e r g b (3 * k) ≡ s (3 * k) = simp add-zero at (beside s e r g b k 0 d (omega arith)) in rw (z, beside s e r g b k 1 d (omega arith), beside s e r g b k 2 d (omega arith)))
     ∙ rw (three-red s e r g b, three-green s e r g b, three-blue s e r g b)
 
 set-colour₁ : (l : List ℕ) (e r g b : ℕ) → length l ≡ whole → e < 256 →

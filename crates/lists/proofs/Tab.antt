@@ -1,10 +1,11 @@
 -- A list by its elements has as many as asked for, each as given, and grows at its end; it is the same list where its elements
 -- are the same, and changed at one place only it is set there.
-use mathlib.Core.Path.{_≡_, refl, ap}
-use mathlib.Core.List.{[], _∷_, _++_}
+use mathlib.Core.Path.{_≡_, refl, ap, sym, _∙_}
+use mathlib.Core.List.{List, [], _∷_, _++_}
 use Prim.Native.Nat.{ℕ, zero, suc, _<_}
 use native.Mathlib.Omega.{arith}
 use lib.ListN.{length, getD, set}
+use lib.Seq.{ext-getD}
 use Rattle.lists.specs.Tab.{tab}
 
 pub tab-length : {A : Type 0} (g : ℕ → A) (n : ℕ) → length (tab g n) ≡ n
@@ -35,10 +36,15 @@ unfolding tab
 tab-same f g zero h = refl
 tab-same f g (suc n) h = rw (h 0 (omega arith), tab-same (λ i. f (suc i)) (λ i. g (suc i)) n (λ k w. h (suc k) (omega arith)))
 
-pub tab-set : {A : Type 0} (f g : ℕ → A) (n i : ℕ) → i < n → ((k : ℕ) → (k ≡ i → ⊥) → g k ≡ f k) → tab g n ≡ set (tab f n) i (g i)
+pub tab-set : {A : Type 0} (f g : ℕ → A) (n i : ℕ) → i < n → ((k : ℕ) → k < n → (k ≡ i → ⊥) → g k ≡ f k) → tab g n ≡ set (tab f n) i (g i)
 unfolding tab
 tab-set f g zero i h e = absurd (omega arith)
-tab-set f g (suc n) zero h e = rw (tab-same (λ i. g (suc i)) (λ i. f (suc i)) n (λ k w. e (suc k) (λ s. omega arith)))
+tab-set f g (suc n) zero h e = rw (tab-same (λ i. g (suc i)) (λ i. f (suc i)) n (λ k w. e (suc k) (omega arith) (λ s. omega arith)))
 tab-set f g (suc n) (suc i) h e =
-    rw (e 0 (λ s. omega arith))
-    (ap (_∷_ (f 0)) (tab-set (λ k. f (suc k)) (λ k. g (suc k)) n i (omega arith) (λ k s. e (suc k) (λ t. s (omega arith)))))
+    rw (e 0 (omega arith) (λ s. omega arith))
+    (ap (_∷_ (f 0)) (tab-set (λ k. f (suc k)) (λ k. g (suc k)) n i (omega arith) (λ k w s. e (suc k) (omega arith) (λ t. s (omega arith)))))
+
+-- a list is the list by its elements
+pub tab-is : (f : ℕ → ℕ) (n : ℕ) (t : List ℕ) → length t ≡ n → ((i : ℕ) → i < n → f i ≡ getD t i 0) → tab f n ≡ t
+tab-is f n t s h =
+    ext-getD 0 (tab f n) t (tab-length f n ∙ sym s) (λ i w. let u : i < n = rw (tab-length f n) at w in tab-at f n i 0 u ∙ h i u)
