@@ -6,12 +6,11 @@ use mathlib.Core.List.{List, [], _∷_, _++_}
 use lib.Dec.{eqb}
 use lib.ListN.{length, take, replicate}
 use Rattle.chip_registers.specs.declared.Group.{Group}
-use Rattle.chip.specs.State.{named}
+use Rattle.chip.specs.State.{Chip, named}
 use Rattle.chip.specs.Names.{register}
 use Rattle.chip.specs.Palette.{entry, shown}
 use Rattle.chip.specs.Access.{answerNumber, portWritten, portRead}
 use Rattle.chip.specs.Reset.{reset}
-use Rattle.chip.specs.declared.Chip.{Chip}
 use Rattle.chip.specs.declared.Rgb.{Rgb}
 use Rattle.blit_raster.specs.Raster.{raster}
 use Rattle.blit.specs.Transfer.{transferred}

@@ -18,12 +18,11 @@ use Rattle.chip_registers.specs.declared.Group.the-variants.{Cr, Ar}
 use Rattle.chip_ports.specs.Ports.{target}
 use Rattle.chip_ports.specs.declared.Target.{Target}
 use Rattle.chip_ports.specs.declared.Target.the-variants.{Index, Data, ReadIndex, WriteIndex, Paldata, Attribute, Status, NotPicked, NotListed}
-use Rattle.chip.specs.State.{Named, named, withNamed, withLoading, withPicture, withTurn, indexOf}
+use Rattle.chip.specs.State.{Chip, Named, named, withNamed, withLoading, withPicture, withTurn, indexOf}
 use Rattle.chip.specs.Names.{register, locked, writableAt, received, portsOpen, picks3Dx}
 use Rattle.chip.specs.Palette.{loaded, coloured, moved}
 use Rattle.chip.specs.Attribute.{attributeSet, attributeAimed, turnReturned}
 use Rattle.chip.specs.Access.{writeTo, readFrom, portWritten, portRead, wrote, seen}
-use Rattle.chip.specs.declared.Chip.{Chip}
 use Rattle.chip.specs.declared.access.Answer.the-variants.{Done, Closed}
 use Rattle.chip.proofs.NameLaws.{Bytes, received-bytes, received-keeps-bit, coloured-keeps-register, picture-keeps-register}
 

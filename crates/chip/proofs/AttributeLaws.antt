@@ -11,14 +11,11 @@ use Rattle.lists.specs.Bits.{bit, isSet}
 use Rattle.chip_registers.specs.Indexes.{indexKept}
 use Rattle.chip_registers.specs.declared.Group.the-variants.{Ar}
 use Rattle.chip_ports.specs.Ports.{ports, target}
-use Rattle.chip.specs.State.{named, join, withPicture, withTurn, indexOf, withIndex}
+use Rattle.chip.specs.State.{Chip, named, join, withPicture, withTurn, indexOf, withIndex}
 use Rattle.chip.specs.Names.{register, received, portsOpen, picks3Dx}
 use Rattle.chip.specs.Attribute.{attributeIndex, attributeAimed, attributeSet, attributeWritten, turnReturned}
-use Rattle.chip.specs.Access.{portWritten, portRead, wrote, seen}
-use Rattle.chip.specs.declared.Chip.{Chip}
+use Rattle.chip.specs.Access.{Seen, Wrote, portWritten, portRead, wrote, seen}
 use Rattle.chip.specs.declared.access.Answer.the-variants.{Done, Unlisted}
-use Rattle.chip.specs.declared.access.Wrote.{Wrote}
-use Rattle.chip.specs.declared.access.Seen.{Seen}
 use Rattle.chip.proofs.AccessLaws.{write-open, read-open}
 
 module _ (c : Chip) (free : portsOpen (named c) ≡ true) where

@@ -17,13 +17,11 @@ use Rattle.chip_registers.specs.declared.Group.{Group}
 use Rattle.chip_registers.specs.declared.Group.the-variants.{Cr, Sr, Gr, Xr, Fr, Mr, Msr, Palmask, Ar}
 use Rattle.chip_ports.specs.Ports.{ports, target}
 use Rattle.chip_ports.specs.declared.Target.the-variants.{Index, Data}
-use Rattle.chip.specs.State.{Named, named, join, withNamed, withIndexes, withTurn, indexByte, withIndexByte, indexOf, withIndex}
+use Rattle.chip.specs.State.{Chip, Named, named, join, withNamed, withIndexes, withTurn, indexByte, withIndexByte, indexOf, withIndex}
 use Rattle.chip.specs.Names.{locked, received, portsOpen, picks3Dx}
-use Rattle.chip.specs.Access.{portWritten, portRead, wrote, seen}
-use Rattle.chip.specs.declared.Chip.{Chip}
+use Rattle.chip.specs.Access.{Seen, portWritten, portRead, wrote, seen}
 use Rattle.chip.specs.declared.Indexes.{Indexes}
 use Rattle.chip.specs.declared.access.Answer.the-variants.{Done}
-use Rattle.chip.specs.declared.access.Seen.{Seen}
 use Rattle.chip.proofs.NameLaws.{received-bit, received-other}
 use Rattle.chip.proofs.AccessLaws.{write-open, read-open, write-data}
 

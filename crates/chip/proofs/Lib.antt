@@ -16,3 +16,4 @@ pub mod ResetLaws
 pub mod ReachLaws
 pub mod SizeLaws
 pub mod ViewLaws
+pub mod Places

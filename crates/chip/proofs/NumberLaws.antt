@@ -10,12 +10,9 @@ use Rattle.chip_ports.specs.Ports.{ports, target, isListed}
 use Rattle.chip_ports.proofs.PortLaws.{listedPorts, listed-exactly, status-read-only}
 use Rattle.chip_ports.specs.declared.Target.{Target}
 use Rattle.chip_ports.specs.declared.Target.the-variants.{Index, Data, ReadIndex, WriteIndex, Paldata, Attribute, Status, NotPicked, NotListed}
-use Rattle.chip.specs.State.{named}
+use Rattle.chip.specs.State.{Chip, named}
 use Rattle.chip.specs.Names.{portsOpen, picks3Dx}
-use Rattle.chip.specs.Access.{answerNumber, accessTable, writeTo, readFrom, portWritten, portRead, wrote, seen}
-use Rattle.chip.specs.declared.Chip.{Chip}
-use Rattle.chip.specs.declared.access.Wrote.{Wrote}
-use Rattle.chip.specs.declared.access.Seen.{Seen}
+use Rattle.chip.specs.Access.{Seen, Wrote, answerNumber, accessTable, writeTo, readFrom, portWritten, portRead, wrote, seen}
 use Rattle.chip.specs.declared.access.Answer.the-variants.{Unlisted, Closed}
 use Rattle.chip.proofs.AccessLaws.{write-closed, read-closed, write-open, read-open}
 

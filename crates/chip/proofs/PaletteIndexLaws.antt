@@ -13,18 +13,15 @@ use Rattle.chip_ports.specs.Ports.{ports, target}
 use Rattle.chip_ports.specs.declared.Target.{Target}
 use Rattle.chip_ports.specs.declared.Target.the-variants.{Index, Data, ReadIndex, WriteIndex, Paldata, Attribute, Status, NotPicked, NotListed}
 use Rattle.chip_ports.proofs.PortLaws.{holds, target-elsewhere}
-use Rattle.chip.specs.State.{named, withLoading}
+use Rattle.chip.specs.State.{Chip, named, withLoading}
 use Rattle.chip.specs.Names.{portsOpen, picks3Dx}
 use Rattle.chip.specs.Palette.{coloured, aimed, held, moved, palstate}
 use Rattle.chip.specs.Attribute.{attributeSet, attributeAimed}
-use Rattle.chip.specs.Access.{writeTo, portWritten, portRead, wrote}
+use Rattle.chip.specs.Access.{Seen, Wrote, writeTo, portWritten, portRead, wrote}
 use Rattle.chip.specs.Reset.{reset}
 use Rattle.chip.specs.Reach.{fresh}
-use Rattle.chip.specs.declared.Chip.{Chip}
 use Rattle.chip.specs.declared.Loading.{Loading}
 use Rattle.chip.specs.declared.access.Answer.the-variants.{Closed}
-use Rattle.chip.specs.declared.access.Wrote.{Wrote}
-use Rattle.chip.specs.declared.access.Seen.{Seen}
 use Rattle.chip.proofs.AccessLaws.{read-open, state-read}
 use Rattle.chip.proofs.PaletteLaws.{write-index-written, read-index-written, after, read, colour-by-ports, colour-read-by-ports}
 use Rattle.chip.proofs.ReachLaws.{ports-stay}

@@ -16,16 +16,13 @@ use Rattle.chip_registers.specs.WriteRule.{lockedBy, writableNow}
 use Rattle.chip_registers.specs.Indexes.{indexKept}
 use Rattle.chip_registers.specs.declared.Group.the-variants.{Xr}
 use Rattle.chip_ports.specs.Ports.{ports, target}
-use Rattle.chip.specs.State.{Named, named, join, withIndex, withLoading}
+use Rattle.chip.specs.State.{Chip, Named, named, join, withIndex, withLoading}
 use Rattle.chip.specs.Names.{locked, received, portsOpen, eightBit}
 use Rattle.chip.specs.Palette.{rgb, byMode, entry, coloured, aimed, held, moved, loaded, paldata}
-use Rattle.chip.specs.Access.{portWritten, portRead, wrote, seen}
-use Rattle.chip.specs.declared.Chip.{Chip}
+use Rattle.chip.specs.Access.{Seen, Wrote, portWritten, portRead, wrote, seen}
 use Rattle.chip.specs.declared.Indexes.{Indexes}
 use Rattle.chip.specs.declared.Loading.{Loading}
 use Rattle.chip.specs.declared.access.Answer.the-variants.{Done}
-use Rattle.chip.specs.declared.access.Wrote.{Wrote}
-use Rattle.chip.specs.declared.access.Seen.{Seen}
 use Rattle.chip.proofs.NameLaws.{Has, received-bit, received-other, received-keeps-colours}
 use Rattle.chip.proofs.AccessLaws.{write-open, read-open}
 use Rattle.chip.proofs.IndexLaws.{register-by-ports}

@@ -16,12 +16,11 @@ use Rattle.chip_registers.proofs.WriteLaws.{locked-fewer, same-bits, CR00-to-CR
 use Rattle.chip_registers.specs.declared.Row.the-variants.{Unlisted}
 use Rattle.chip_registers.specs.declared.Group.{Group}
 use Rattle.chip_registers.specs.declared.Group.the-variants.{Cr, Xr, Ar}
-use Rattle.chip.specs.State.{Named, named}
+use Rattle.chip.specs.State.{Chip, Named, named}
 use Rattle.chip.specs.Names.{register, locked, writableAt, portsOpen}
 use Rattle.chip.specs.Access.{portWritten}
 use Rattle.chip.specs.Reset.{resetByte}
 use Rattle.chip.specs.Reach.{Reach, fresh, wrote, saw}
-use Rattle.chip.specs.declared.Chip.{Chip}
 use Rattle.chip.proofs.AccessLaws.{write-keeps-bit, write-bytes, read-keeps-all}
 use Rattle.chip.proofs.NameLaws.{Bytes}
 use Rattle.chip.proofs.ResetLaws.{register-reset, reset-bytes, reset-unlisted, XR-pins-reset}

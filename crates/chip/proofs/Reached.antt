@@ -6,10 +6,9 @@ use mathlib.Core.Path.{_≡_}
 use borrow.Author.Tests.{not-true, not-false}
 use Rattle.chip_ports.specs.Ports.{target}
 use Rattle.chip_ports.specs.declared.Target.{Target}
-use Rattle.chip.specs.State.{named}
+use Rattle.chip.specs.State.{Chip, named}
 use Rattle.chip.specs.Names.{portsOpen, picks3Dx}
 use Rattle.chip.specs.Access.{portWritten, portRead, writeTo, readFrom, wrote, seen}
-use Rattle.chip.specs.declared.Chip.{Chip}
 use Rattle.chip.specs.declared.access.Answer.the-variants.{Closed}
 
 module _ (c : Chip) (p : ℕ) {answers : Bool} (is : answers ≡ portsOpen (named c)) where

@@ -23,18 +23,16 @@ use Rattle.chip_registers.specs.declared.Group.the-variants.{Cr, Sr, Gr, Xr, Fr
 use Rattle.chip_ports.specs.Ports.{target}
 use Rattle.chip_ports.specs.declared.Target.{Target}
 use Rattle.chip_ports.specs.declared.Target.the-variants.{Index, Data, ReadIndex, WriteIndex, Paldata, Attribute, Status, NotPicked, NotListed}
-use Rattle.chip.specs.State.{Named, named, indexByte, indexOf, withIndex}
+use Rattle.chip.specs.State.{Chip, Named, named, indexByte, indexOf, withIndex}
 use Rattle.chip.specs.Names.{register, received, locked, writableAt, portsOpen, picks3Dx, eightBit}
 use Rattle.chip.specs.Palette.{rgb, byMode, entry, coloured, held, moved}
 use Rattle.chip.specs.Attribute.{attributeSet, attributeAimed}
-use Rattle.chip.specs.Access.{writeTo, portWritten}
+use Rattle.chip.specs.Access.{Seen, writeTo, portWritten}
 use Rattle.chip.specs.Reset.{resetByte, reset}
 use Rattle.chip.specs.Reach.{Reach, fresh, wrote, saw}
-use Rattle.chip.specs.declared.Chip.{Chip}
 use Rattle.chip.specs.declared.Indexes.{Indexes}
 use Rattle.chip.specs.declared.Loading.{Loading}
 use Rattle.chip.specs.declared.Rgb.{Rgb}
-use Rattle.chip.specs.declared.access.Seen.{Seen}
 use Rattle.chip.proofs.Banks.{bank, place, room, place-room, bank-replaced, bank-same}
 use Rattle.chip.proofs.NameLaws.{Has, received-same, received-bit, coloured-keeps-register}
 use Rattle.chip.proofs.AccessLaws.{write-cases, state-read, write-data, named-written, read-keeps-all}

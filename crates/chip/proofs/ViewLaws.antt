@@ -25,11 +25,11 @@ use Rattle.chip_registers.specs.declared.Group.the-variants.{Cr, Sr, Gr, Xr, Fr
 use Rattle.chip_registers.proofs.TableLaws.{every-group, is-same}
 use Rattle.chip_registers.proofs.RowLaws.{stands, slot-one, nowhere-unlisted, unlisted-nowhere, groupOn, indexOn, index-on, each-slot}
 use Rattle.chip_registers.proofs.WriteLaws.{written-none}
-use Rattle.chip.specs.State.{Named, named, withNamed}
+use Rattle.chip.specs.State.{Chip, Named, named, withNamed, withPicture}
 use Rattle.chip.specs.Names.{register, replaced, locked, received}
 use Rattle.chip.specs.Reach.{Reach}
-use Rattle.chip.specs.View.{Kept, inRow, tableFrom, view, withRow, Shows}
-use Rattle.chip.specs.declared.Chip.{Chip}
+use Rattle.chip.specs.View.{inRow, tableFrom, view, withRow, Shows}
+use Rattle.chip.specs.declared.Chip.{Chip as Kept}
 use Rattle.chip.proofs.Banks.{is-self}
 use Rattle.chip.proofs.ReachLaws.{unlisted-reads-00}
 use Rattle.chip.proofs.SizeLaws.{reach-room}
@@ -82,6 +82,17 @@ unlisted-shows-00 g f i h e = go (isIndexed g) refl
     go : (z : Bool) → isIndexed g ≡ z → register g (named (view f)) i ≡ 0x00
     go true x = shown-at g f i h x ∙ ap (inRow (f .row)) (unlisted-nowhere g i h e)
     go false x = absurd (one-register g i x e)
+
+-- what is beside the row is shown as it is kept
+pub picture-shown : (f : Kept) (lit : Bool)
+    → view (record { row = f .row; msr = f .msr; palmask = f .palmask; picture = lit; palette = f .palette; indexes = f .indexes; loading = f .loading })
+    ≡ withNamed (view f) (withPicture (named (view f)) lit)
+unfolding view
+picture-shown f lit = refl
+
+pub loading-shown : (f : Kept) → view f .loading ≡ f .loading
+unfolding view
+loading-shown f = refl
 
 -- ---- a byte stored in the row
 

@@ -7,21 +7,28 @@ use mathlib.Core.Bool.{Bool, true, false, cond}
 use Rattle.chip_ports.specs.Ports.{target, isListed}
 use Rattle.chip_ports.specs.declared.Target.{Target}
 use Rattle.chip_ports.specs.declared.Target.the-variants.{Index, Data, ReadIndex, WriteIndex, Paldata, Attribute, Status, NotPicked, NotListed}
-use Rattle.chip.specs.State.{named, join, withNamed, withIndexes, withLoading, indexOf, withIndex}
+use Rattle.chip.specs.State.{Chip, named, join, withNamed, withIndexes, withLoading, indexOf, withIndex}
 use Rattle.chip.specs.Names.{register, received, portsOpen, picks3Dx}
 use Rattle.chip.specs.Palette.{aimed, held, moved, loaded, palstate, paldata}
 use Rattle.chip.specs.Attribute.{attributeIndex, attributeWritten, turnReturned}
-use Rattle.chip.specs.declared.Chip.{Chip}
 use Rattle.chip.specs.declared.access.Answer.{Answer}
 use Rattle.chip.specs.declared.access.Answer.the-variants.{Done, Unlisted, Closed}
-use Rattle.chip.specs.declared.access.Wrote.{Wrote}
-use Rattle.chip.specs.declared.access.Seen.{Seen}
 
 -- document 01's number of an answer
 abbrev pub answerNumber : Answer → ℕ
 answerNumber Done = 0
 answerNumber Unlisted = 1
 answerNumber Closed = 2
+
+-- what a port write hands back, and a port read
+pub record Wrote : Type 0 where
+  pub answer : Answer
+  pub chip : Chip
+
+pub record Seen : Type 0 where
+  pub answer : Answer
+  pub value : ℕ
+  pub chip : Chip
 
 abbrev pub wrote : Answer → Chip → Wrote
 wrote a c = record { answer = a; chip = c }

@@ -6,9 +6,8 @@ use Prim.Native.Nat.{ℕ, _+_}
 use mathlib.Core.Bool.{true, false, cond}
 use Rattle.lists.specs.Bits.{isSet}
 use Rattle.chip_registers.specs.declared.Group.the-variants.{Ar}
-use Rattle.chip.specs.State.{named, join, withIndexes, withPicture, withTurn, indexOf, withIndex}
+use Rattle.chip.specs.State.{Chip, named, join, withIndexes, withPicture, withTurn, indexOf, withIndex}
 use Rattle.chip.specs.Names.{received}
-use Rattle.chip.specs.declared.Chip.{Chip}
 
 -- the attribute index as 3C0h reads it
 abbrev pub attributeIndex : Chip → ℕ

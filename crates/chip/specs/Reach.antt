@@ -3,7 +3,7 @@
 use Prim.Native.Nat.{ℕ, _<_}
 use Rattle.chip.specs.Access.{portWritten, portRead}
 use Rattle.chip.specs.Reset.{reset}
-use Rattle.chip.specs.declared.Chip.{Chip}
+use Rattle.chip.specs.State.{Chip}
 
 -- what accesses reach from a reset with these pin bytes
 pub data Reach (first second : ℕ) : Chip → Type 0 where

@@ -15,7 +15,7 @@ use Rattle.chip_registers.specs.Groups.{is, resetOf}
 use Rattle.chip_registers.specs.declared.Group.{Group}
 use Rattle.chip_registers.specs.declared.Group.the-variants.{Cr, Sr, Gr, Xr, Fr, Mr, Msr, Palmask, Ar}
 use Rattle.chip.specs.Palette.{rgb}
-use Rattle.chip.specs.declared.Chip.{Chip}
+use Rattle.chip.specs.State.{Chip}
 
 -- the byte that a reset leaves in a register
 unfoldable pub resetByte : ℕ → ℕ → Group → ℕ → ℕ

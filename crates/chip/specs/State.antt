@@ -8,10 +8,25 @@ use Rattle.chip_registers.specs.Groups.{is}
 use Rattle.chip_registers.specs.Indexes.{indexKept}
 use Rattle.chip_registers.specs.declared.Group.{Group}
 use Rattle.chip_registers.specs.declared.Group.the-variants.{Cr, Sr, Gr, Xr, Fr, Mr, Msr, Palmask, Ar}
-use Rattle.chip.specs.declared.Chip.{Chip}
 use Rattle.chip.specs.declared.Rgb.{Rgb}
 use Rattle.chip.specs.declared.Indexes.{Indexes}
 use Rattle.chip.specs.declared.Loading.{Loading}
+
+-- the state. Its tables have a byte for every index; what is kept of it are the listed registers alone, and specs/View says how
+pub record Chip : Type 0 where
+  pub cr : List ℕ
+  pub sr : List ℕ
+  pub gr : List ℕ
+  pub xr : List ℕ
+  pub fr : List ℕ
+  pub mr : List ℕ
+  pub ar : List ℕ
+  pub msr : ℕ
+  pub palmask : ℕ
+  pub picture : Bool
+  pub palette : List Rgb
+  pub indexes : Indexes
+  pub loading : Loading
 
 -- what has a name
 pub record Named : Type 0 where

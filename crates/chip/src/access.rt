@@ -4,6 +4,7 @@ ghost use mathlib.Core.Bool.{true, false};
 ghost use mathlib.Core.Path.{_≡_};
 ghost use Rattle.chip.specs.State.{named, join, indexByte, indexOf, withIndex};
 ghost use Rattle.chip.specs.Access.{answerNumber, accessTable, writeTo, readFrom, portWritten, portRead};
+ghost use Rattle.chip.specs.View.{view, viewWrote, viewSeen};
 use crate::Chip;
 use chip_ports::Target;
 use chip_ports::leads_to;
@@ -44,7 +45,7 @@ pub fn number(a: Answer) -> u8
 impl Chip {
     // The byte that holds a group's index; MSR and PALMASK have none, and stand at 0.
     fn index_byte(self, g: Group) -> u8
-        ensures { λ r. ⌜ r ≡ indexByte g (self .indexes) ⌝ }
+        ensures { λ r. ⌜ r ≡ indexByte g (view self .indexes) ⌝ }
     {
         match g {
             Group::Cr => self.indexes.cr,
@@ -61,14 +62,14 @@ impl Chip {
 
     // A group's index: the bits that its index register has.
     pub fn index(self, g: Group) -> u8
-        ensures { λ r. ⌜ r ≡ indexOf g (self .indexes) ⌝ }
+        ensures { λ r. ⌜ r ≡ indexOf g (view self .indexes) ⌝ }
     {
         index_kept(g, self.index_byte(g))
     }
 
     // The state after a group's index is written: it keeps the bits that its index register has.
     pub fn with_index(mut self, g: Group, v: u8) -> Chip
-        ensures { λ r. ⌜ r ≡ join (named self) (withIndex g (self .indexes) v) (self .loading) ⌝ }
+        ensures { λ r. ⌜ view r ≡ join (named (view self)) (withIndex g (view self .indexes) v) (view self .loading) ⌝ }
     {
         let kept = index_kept(g, v);
         match g {
@@ -87,7 +88,7 @@ impl Chip {
 
     // A byte written where a port leads.
     fn write_to(self, t: Target, v: u8) -> Wrote
-        ensures { λ r. ⌜ r ≡ writeTo t self v ⌝ }
+        ensures { λ r. ⌜ viewWrote r ≡ writeTo t (view self) v ⌝ }
     {
         match t {
             Target::Index(g) => Wrote {
@@ -131,8 +132,8 @@ impl Chip {
 
     // A port write.
     pub fn write(self, port: u16, v: u8) -> Wrote
-        ensures { λ r. ⌜ r ≡ portWritten self port v ⌝ }
-        ensures { λ r. ⌜ answerNumber (r .answer) ≡ accessTable true self port ⌝ }
+        ensures { λ r. ⌜ viewWrote r ≡ portWritten (view self) port v ⌝ }
+        ensures { λ r. ⌜ answerNumber (r .answer) ≡ accessTable true (view self) port ⌝ }
     {
         if !self.is_open() {
             return Wrote {
@@ -145,7 +146,7 @@ impl Chip {
 
     // A byte read from where a port leads.
     fn read_from(self, t: Target) -> Seen
-        ensures { λ r. ⌜ r ≡ readFrom t self ⌝ }
+        ensures { λ r. ⌜ viewSeen r ≡ readFrom t (view self) ⌝ }
     {
         match t {
             Target::Index(g) => Seen {
@@ -198,8 +199,8 @@ impl Chip {
 
     // A port read.
     pub fn read(self, port: u16) -> Seen
-        ensures { λ r. ⌜ r ≡ portRead self port ⌝ }
-        ensures { λ r. ⌜ answerNumber (r .answer) ≡ accessTable false self port ⌝ }
+        ensures { λ r. ⌜ viewSeen r ≡ portRead (view self) port ⌝ }
+        ensures { λ r. ⌜ answerNumber (r .answer) ≡ accessTable false (view self) port ⌝ }
     {
         if !self.is_open() {
             return Seen {

@@ -3,13 +3,14 @@
 ghost use mathlib.Core.Path.{_≡_};
 ghost use Rattle.chip.specs.State.{withIndexes, withTurn};
 ghost use Rattle.chip.specs.Attribute.{attributeIndex, attributeAimed, attributeSet, attributeWritten};
+ghost use Rattle.chip.specs.View.{view};
 use crate::Chip;
 use chip_registers::Group;
 
 impl Chip {
     // The attribute index as 3C0h reads it: the low five bits, and bit 5, the picture.
     pub fn attribute_index(self) -> u8
-        ensures { λ r. ⌜ r ≡ attributeIndex self ⌝ }
+        ensures { λ r. ⌜ r ≡ attributeIndex (view self) ⌝ }
     {
         let low = self.index(Group::Ar);
         if self.picture { low + 0x20 } else { low }
@@ -17,7 +18,7 @@ impl Chip {
 
     // The state with another turn: at data, or at the index.
     pub fn with_turn(mut self, turn: bool) -> Chip
-        ensures { λ r. ⌜ r ≡ withIndexes self (withTurn (self .indexes) turn) ⌝ }
+        ensures { λ r. ⌜ view r ≡ withIndexes (view self) (withTurn (view self .indexes) turn) ⌝ }
     {
         self.indexes.turn = turn;
         self
@@ -25,7 +26,7 @@ impl Chip {
 
     // The state after the attribute index is written: data comes next.
     fn aim_attribute(mut self, v: u8) -> Chip
-        ensures { λ r. ⌜ r ≡ attributeAimed self v ⌝ }
+        ensures { λ r. ⌜ view r ≡ attributeAimed (view self) v ⌝ }
     {
         self.picture = v / 32 % 2 == 1;
         self.with_index(Group::Ar, v).with_turn(true)
@@ -33,7 +34,7 @@ impl Chip {
 
     // The state after the register at the attribute index received a byte: an index comes next.
     fn set_attribute(self, v: u8) -> Chip
-        ensures { λ r. ⌜ r ≡ attributeSet self v ⌝ }
+        ensures { λ r. ⌜ view r ≡ attributeSet (view self) v ⌝ }
     {
         self.put(Group::Ar, self.index(Group::Ar), v)
             .with_turn(false)
@@ -41,7 +42,7 @@ impl Chip {
 
     // The state after a byte is written to 3C0h.
     pub fn write_attribute(self, v: u8) -> Chip
-        ensures { λ r. ⌜ r ≡ attributeWritten self v ⌝ }
+        ensures { λ r. ⌜ view r ≡ attributeWritten (view self) v ⌝ }
     {
         if self.indexes.turn {
             return self.set_attribute(v);

@@ -1,13 +1,19 @@
 // The chip: its state by value, its reset, and each register by name. Document 01, "Ports" (the state) and
 // "Registers"; document 02, P1, for the attribute registers. The palette is in palette.rt, the attribute port in
-// attribute.rt, the port accesses in access.rt. Only `fill` with `new`, `get`,
-// `replace`, `entry` and `put_colour` touch the tables; everything else asks for a register or a colour.
+// attribute.rt, the port accesses in access.rt. Only `fill` with `new`, `get` and `put` touch the row, and `entry` and
+// `put_colour` the palette; everything else asks for a register or a colour.
 ghost use mathlib.Core.Path.{_≡_};
-ghost use Rattle.lists.specs.Tab.{tab};
+ghost use Prim.Native.Nat.{_≤_};
+ghost use mathlib.Core.Bool.{cond};
+ghost use Rattle.chip_registers.specs.Groups.{isIndexed};
+ghost use Rattle.chip_registers.specs.Row.{before, slotOf, rowSize};
 ghost use Rattle.chip.specs.State.{named, withNamed};
-ghost use Rattle.chip.specs.Names.{register, replaced, locked as lockedOf, received, portsOpen, picks3Dx, eightBit};
+ghost use Rattle.chip.specs.Names.{register, locked as lockedOf, received, portsOpen, picks3Dx, eightBit};
 ghost use Rattle.chip.specs.Reset.{resetByte, reset as resetOf};
+ghost use Rattle.chip.specs.View.{view, numberAt, Filled};
+use chip_masks::standing;
 use chip_registers::Group;
+use chip_registers::group_at;
 use chip_registers::locked_by;
 use chip_registers::reset_byte;
 use chip_registers::writable_now;
@@ -47,15 +53,10 @@ pub struct Loading {
     pub reading: bool,
 }
 
-// The whole state. The picture is bit 5 of the attribute index.
+// What is kept of the state: the listed registers in one row, in the order of the tables and of their indexes
+// (document 02, P7). The picture is bit 5 of the attribute index.
 pub struct Chip {
-    pub cr: [u8; 256],
-    pub sr: [u8; 256],
-    pub gr: [u8; 256],
-    pub xr: [u8; 256],
-    pub fr: [u8; 256],
-    pub mr: [u8; 256],
-    pub ar: [u8; 256],
+    pub row: [u8; 275],
     pub msr: u8,
     pub palmask: u8,
     pub picture: bool,
@@ -94,38 +95,65 @@ pub fn after_reset(g: Group, i: u8, first: u8, second: u8) -> u8
     }
 }
 
-// A group's table after a reset.
-fn fill(g: Group, first: u8, second: u8) -> [u8; 256]
-    ensures { λ r. ⌜ r ≡ tab (resetByte first second g) 256 ⌝ }
+// Where a group's registers start in the row; 275 for MSR and PALMASK, which stand in fields of their own.
+fn first_of(g: Group) -> usize
+    ensures { λ r. ⌜ (r ≡ cond (isIndexed g) (before g) rowSize) × (r ≤ rowSize) ⌝ }
 {
-    let mut table = [0u8; 256];
-    let mut i: usize = 0;
-    while i < 256 {
-        table[i] = after_reset(g, i as u8, first, second);
-        i += 1;
+    match g {
+        Group::Cr => 0,
+        Group::Sr => 44,
+        Group::Gr => 50,
+        Group::Xr => 59,
+        Group::Fr => 147,
+        Group::Mr => 199,
+        Group::Msr => 275,
+        Group::Palmask => 275,
+        Group::Ar => 254,
     }
-    table
+}
+
+// Where a register stands in the row; 275, which is no place, for an index that is not listed, MSR and PALMASK.
+fn place_of(g: Group, i: u8) -> usize
+    ensures { λ r. ⌜ r ≡ numberAt (slotOf g i) ⌝ }
+{
+    let e = standing(g, i);
+    if e < 128 {
+        return 275;
+    }
+    first_of(g) + (e - 128) as usize
+}
+
+// The row after a reset: each name's byte at its place.
+fn fill(first: u8, second: u8) -> [u8; 275]
+    ensures { λ r. ⌜ Filled first second r ⌝ }
+{
+    let mut row = [0u8; 275];
+    let mut n: usize = 0;
+    while n < 2304 {
+        let g = group_at((n / 256) as u8);
+        let i = (n % 256) as u8;
+        let at = place_of(g, i);
+        if at < 275 {
+            row[at] = after_reset(g, i, first, second);
+        }
+        n += 1;
+    }
+    row
 }
 
 impl Chip {
     // The chip after a reset that lends two pin bytes, whatever it held.
     pub fn reset(self, first: u8, second: u8) -> Chip
-        ensures { λ r. ⌜ r ≡ resetOf first second ⌝ }
+        ensures { λ r. ⌜ view r ≡ resetOf first second ⌝ }
     {
         Chip::new(first, second)
     }
 
     // A chip as its first reset leaves it.
     pub fn new(first: u8, second: u8) -> Chip
-        ensures { λ r. ⌜ r ≡ resetOf first second ⌝ }
+        ensures { λ r. ⌜ view r ≡ resetOf first second ⌝ }
     {
-        let cr = fill(Group::Cr, first, second);
-        let sr = fill(Group::Sr, first, second);
-        let gr = fill(Group::Gr, first, second);
-        let xr = fill(Group::Xr, first, second);
-        let fr = fill(Group::Fr, first, second);
-        let mr = fill(Group::Mr, first, second);
-        let ar = fill(Group::Ar, first, second);
+        let row = fill(first, second);
         let msr = after_reset(Group::Msr, 0, first, second);
         let palmask = after_reset(Group::Palmask, 0, first, second);
         let black = Rgb {
@@ -134,13 +162,7 @@ impl Chip {
             blue: 0,
         };
         Chip {
-            cr,
-            sr,
-            gr,
-            xr,
-            fr,
-            mr,
-            ar,
+            row,
             msr,
             palmask,
             picture: false,
@@ -167,74 +189,73 @@ impl Chip {
 
     // The byte of a register, by name.
     pub fn get(self, g: Group, i: u8) -> u8
-        ensures { λ r. ⌜ r ≡ register g (named self) i ⌝ }
+        ensures { λ r. ⌜ r ≡ register g (named (view self)) i ⌝ }
     {
-        let at = i as usize;
+        let at = place_of(g, i);
+        if at < 275 {
+            return self.row[at];
+        }
         match g {
-            Group::Cr => self.cr[at],
-            Group::Sr => self.sr[at],
-            Group::Gr => self.gr[at],
-            Group::Xr => self.xr[at],
-            Group::Fr => self.fr[at],
-            Group::Mr => self.mr[at],
+            Group::Cr => 0x00,
+            Group::Sr => 0x00,
+            Group::Gr => 0x00,
+            Group::Xr => 0x00,
+            Group::Fr => 0x00,
+            Group::Mr => 0x00,
             Group::Msr => self.msr,
             Group::Palmask => self.palmask,
-            Group::Ar => self.ar[at],
+            Group::Ar => 0x00,
         }
-    }
-
-    // The state with a register's byte replaced, writable bits or not.
-    fn replace(mut self, g: Group, i: u8, b: u8) -> Chip
-        ensures { λ r. ⌜ r ≡ withNamed self (replaced g (named self) i b) ⌝ }
-    {
-        let at = i as usize;
-        match g {
-            Group::Cr => self.cr[at] = b,
-            Group::Sr => self.sr[at] = b,
-            Group::Gr => self.gr[at] = b,
-            Group::Xr => self.xr[at] = b,
-            Group::Fr => self.fr[at] = b,
-            Group::Mr => self.mr[at] = b,
-            Group::Msr => self.msr = b,
-            Group::Palmask => self.palmask = b,
-            Group::Ar => self.ar[at] = b,
-        }
-        self
     }
 
     // Whether a group's registers are under a lock.
     fn locked(self, g: Group) -> bool
-        ensures { λ r. ⌜ r ≡ lockedOf g (named self) ⌝ }
+        ensures { λ r. ⌜ r ≡ lockedOf g (named (view self)) ⌝ }
     {
         locked_by(g, self.get(Group::Cr, 0x11), self.picture)
     }
 
     // The state after a register has received a byte, by name.
-    pub fn put(self, g: Group, i: u8, v: u8) -> Chip
-        ensures { λ r. ⌜ r ≡ withNamed self (received g (named self) i v) ⌝ }
+    pub fn put(mut self, g: Group, i: u8, v: u8) -> Chip
+        ensures { λ r. ⌜ view r ≡ withNamed (view self) (received g (named (view self)) i v) ⌝ }
     {
         let mask = writable_now(g, self.locked(g), i);
-        let b = write(self.get(g, i), v, mask);
-        self.replace(g, i, b)
+        let at = place_of(g, i);
+        if at < 275 {
+            self.row[at] = write(self.row[at], v, mask);
+            return self;
+        }
+        match g {
+            Group::Cr => {}
+            Group::Sr => {}
+            Group::Gr => {}
+            Group::Xr => {}
+            Group::Fr => {}
+            Group::Mr => {}
+            Group::Msr => self.msr = write(self.msr, v, mask),
+            Group::Palmask => self.palmask = write(self.palmask, v, mask),
+            Group::Ar => {}
+        }
+        self
     }
 
     // Whether the ports answer: pin CFG1.
     pub fn is_open(self) -> bool
-        ensures { λ r. ⌜ r ≡ portsOpen (named self) ⌝ }
+        ensures { λ r. ⌜ r ≡ portsOpen (named (view self)) ⌝ }
     {
         self.get(Group::Xr, 0x70) / 2 % 2 == 1
     }
 
     // Whether MSR bit 0 picks the CR pair at 3D4h and 3D5h.
     pub fn picks_3dx(self) -> bool
-        ensures { λ r. ⌜ r ≡ picks3Dx (named self) ⌝ }
+        ensures { λ r. ⌜ r ≡ picks3Dx (named (view self)) ⌝ }
     {
         self.get(Group::Msr, 0x00) % 2 == 1
     }
 
     // Whether the palette is in eight-bit mode: XR80 bit 7.
     pub fn is_eight_bit(self) -> bool
-        ensures { λ r. ⌜ r ≡ eightBit (named self) ⌝ }
+        ensures { λ r. ⌜ r ≡ eightBit (named (view self)) ⌝ }
     {
         self.get(Group::Xr, 0x80) / 128 % 2 == 1
     }

@@ -2,6 +2,7 @@
 ghost use mathlib.Core.Path.{_≡_};
 ghost use Rattle.chip.specs.State.{named, join, withNamed, withLoading};
 ghost use Rattle.chip.specs.Palette.{byMode, bright as brightOf, component as componentOf, entry as entryOf, coloured, shown as shownOf, aimed, held, moved, loaded, palstate as palstateOf, paldata as paldataOf};
+ghost use Rattle.chip.specs.View.{view};
 use crate::Chip;
 use crate::Loading;
 use crate::Rgb;
@@ -87,7 +88,7 @@ impl Loading {
 impl Chip {
     // The entry at an index.
     pub fn entry(self, e: u8) -> Rgb
-        ensures { λ r. ⌜ r ≡ entryOf (named self) e ⌝ }
+        ensures { λ r. ⌜ r ≡ entryOf (named (view self)) e ⌝ }
     {
         let at = e as usize;
         self.palette[at]
@@ -95,7 +96,7 @@ impl Chip {
 
     // The state after a colour is stored at an entry, by the mode of this moment.
     pub fn put_colour(mut self, e: u8, red: u8, green: u8, blue: u8) -> Chip
-        ensures { λ r. ⌜ r ≡ withNamed self (coloured (named self) e red green blue) ⌝ }
+        ensures { λ r. ⌜ view r ≡ withNamed (view self) (coloured (named (view self)) e red green blue) ⌝ }
     {
         let eight = self.is_eight_bit();
         let at = e as usize;
@@ -112,7 +113,7 @@ impl Chip {
 
     // The state with another loading state.
     pub fn with_loading(mut self, l: Loading) -> Chip
-        ensures { λ r. ⌜ r ≡ withLoading self l ⌝ }
+        ensures { λ r. ⌜ view r ≡ withLoading (view self) l ⌝ }
     {
         self.loading = l;
         self
@@ -120,7 +121,7 @@ impl Chip {
 
     // The state after a byte is written to PALDATA.
     pub fn load(self, v: u8) -> Chip
-        ensures { λ r. ⌜ r ≡ join (loaded (named self) (self .loading) v) (self .indexes) (moved (held (self .loading) v)) ⌝ }
+        ensures { λ r. ⌜ view r ≡ join (loaded (named (view self)) (view self .loading) v) (view self .indexes) (moved (held (view self .loading) v)) ⌝ }
     {
         let l = self.loading;
         let next = l.hold(v).move_on();
@@ -134,14 +135,14 @@ impl Chip {
 
     // What PALSTATE reads: which of the two indexes was written last.
     pub fn palstate(self) -> u8
-        ensures { λ r. ⌜ r ≡ palstateOf (self .loading) ⌝ }
+        ensures { λ r. ⌜ r ≡ palstateOf (view self .loading) ⌝ }
     {
         if self.loading.reading { 0x03 } else { 0x00 }
     }
 
     // What PALDATA reads: the component at the position, by the mode of this moment.
     pub fn paldata(self) -> u8
-        ensures { λ r. ⌜ r ≡ paldataOf (named self) (self .loading) ⌝ }
+        ensures { λ r. ⌜ r ≡ paldataOf (named (view self)) (view self .loading) ⌝ }
     {
         let e = self.entry(self.loading.index);
         by_mode(self.is_eight_bit(), component(e, self.loading.position))
@@ -149,7 +150,7 @@ impl Chip {
 
     // The colour that a pixel shows.
     pub fn shown(self, pixel: u8) -> Rgb
-        ensures { λ r. ⌜ r ≡ shownOf (named self) pixel ⌝ }
+        ensures { λ r. ⌜ r ≡ shownOf (named (view self)) pixel ⌝ }
     {
         let eight = self.is_eight_bit();
         let e = self.entry(pixel & self.get(Group::Palmask, 0x00));

@@ -7,10 +7,9 @@ use mathlib.Core.Path.{_≡_}
 use mathlib.Core.List.{List, [], _∷_, _++_}
 use lib.ListN.{length}
 use Rattle.lists.proofs.Tests.{and-both}
-use Rattle.chip.specs.State.{named}
+use Rattle.chip.specs.State.{Chip, named}
 use Rattle.chip.specs.Names.{portsOpen}
 use Rattle.chip.specs.Access.{portWritten, portRead}
-use Rattle.chip.specs.declared.Chip.{Chip}
 use Rattle.script_steps.specs.Step.{names, within, legal}
 use Rattle.script_steps.specs.declared.Step.{Step}
 use Rattle.script_steps.specs.declared.Step.the-variants.{Set, Field, Colour}

@@ -7,11 +7,10 @@ use mathlib.Core.Bool.{true}
 use mathlib.Core.Path.{_≡_, refl, _∙_, ap, sym}
 use mathlib.Core.List.{List, [], _∷_, _++_, append-nil}
 use lib.ListN.{length}
-use Rattle.chip.specs.State.{Named, named, join}
+use Rattle.chip.specs.State.{Chip, Named, named, join}
 use Rattle.chip.specs.Names.{received, portsOpen}
 use Rattle.chip.specs.Palette.{coloured}
 use Rattle.chip.proofs.ReachLaws.{ports-stay}
-use Rattle.chip.specs.declared.Chip.{Chip}
 use Rattle.chip.specs.declared.Indexes.{Indexes}
 use Rattle.chip.specs.declared.Loading.{Loading}
 use Rattle.script_steps.specs.Step.{legal}

@@ -9,9 +9,8 @@ use lib.ListN.{length, take, drop}
 use lib.Seq.{take-at}
 use Rattle.lists.specs.Numbers.{returned}
 use Rattle.lists.proofs.Put.{length-put}
-use Rattle.chip.specs.State.{named}
+use Rattle.chip.specs.State.{Chip, named}
 use Rattle.chip.specs.Names.{portsOpen}
-use Rattle.chip.specs.declared.Chip.{Chip}
 use Rattle.script.specs.File.{stepCount, checked}
 use Rattle.script.proofs.Counting.{accepted-few}
 use Rattle.script.proofs.Checking.{Legal, answer-says, accepted-table, refused-table}
@@ -26,15 +25,13 @@ use Rattle.script_commands.proofs.Counted.{steps-counted}
 use Rattle.script_commands.proofs.Expanding.{begins-most}
 use Rattle.script_commands.proofs.Translating.{translated-says}
 use Rattle.script_commands.specs.declared.Translated.the-variants.{Commands, Refused}
-use Rattle.chip_run.specs.Run.{ran, ranTo}
+use Rattle.chip_run.specs.Run.{Ran, ran, ranTo}
 use Rattle.chip_run.proofs.RunLaws.{run-commands}
-use Rattle.chip_run.specs.declared.Ran.{Ran}
 use Rattle.chip_run.specs.declared.Ending.the-variants.{Ended, Stopped}
 use Rattle.chip_run.specs.declared.Reason.the-variants.{Closed}
 use Rattle.chip_play.specs.ByName.{appliedAll}
-use Rattle.chip_play.specs.Played.{performed, played, ByName, ofOutcome, playTable}
+use Rattle.chip_play.specs.Played.{Performance, performed, played, ByName, ofOutcome, playTable}
 use Rattle.chip_play.specs.declared.Outcome.the-variants.{NotPlayed, Played}
-use Rattle.chip_play.specs.declared.Performance.{Performance}
 use Rattle.chip_play.proofs.Demand3.{steps-legal, whole-run}
 use Rattle.chip_play.proofs.Closed.{steps-stop}
 

@@ -9,10 +9,9 @@ use lib.Bits.{bitAnd, bitOr}
 use Rattle.chip_registers.specs.declared.Group.{Group}
 use Rattle.chip_ports.specs.Ports.{target}
 use Rattle.chip_ports.specs.declared.Target.the-variants.{Index, Data, NotPicked}
-use Rattle.chip.specs.State.{Named, join, indexOf, withIndex}
+use Rattle.chip.specs.State.{Chip, Named, join, indexOf, withIndex}
 use Rattle.chip.specs.Names.{register, received, portsOpen, picks3Dx}
 use Rattle.chip.specs.Access.{portWritten, portRead}
-use Rattle.chip.specs.declared.Chip.{Chip}
 use Rattle.chip.specs.declared.Indexes.{Indexes}
 use Rattle.chip.specs.declared.Loading.{Loading}
 use Rattle.script_commands.specs.declared.Command.{Command}

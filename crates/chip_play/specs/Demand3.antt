@@ -14,16 +14,14 @@ use mathlib.Core.Path.{_≡_}
 use mathlib.Core.Bool.{true}
 use mathlib.Core.List.{List}
 use Rattle.lists.specs.Bits.{isSet}
-use Rattle.chip.specs.State.{named}
+use Rattle.chip.specs.State.{Chip, named}
 use Rattle.chip.specs.Reach.{Reach}
-use Rattle.chip.specs.declared.Chip.{Chip}
 use Rattle.script.specs.File.{checked}
 use Rattle.lists.specs.Numbers.{returned}
 use Rattle.script.specs.declared.Checked.the-variants.{Accepted}
 use Rattle.script_commands.specs.Command.{bytesOfAll}
 use Rattle.script_commands.specs.Translation.{stepsTo, commandsTo, begins}
-use Rattle.chip_run.specs.Run.{ran, ofEnding}
-use Rattle.chip_run.specs.declared.Ran.{Ran}
+use Rattle.chip_run.specs.Run.{Ran, ran, ofEnding}
 use Rattle.chip_play.specs.ByName.{appliedAll}
 
 -- the run of a file's translated commands up to those of its first n steps; m is the number of its steps

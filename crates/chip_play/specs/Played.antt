@@ -5,9 +5,8 @@ use mathlib.Core.Path.{_≡_}
 use mathlib.Core.Bool.{true, false, cond}
 use mathlib.Core.List.{List}
 use lib.Dec.{ltb}
-use Rattle.chip.specs.State.{named}
+use Rattle.chip.specs.State.{Chip, named}
 use Rattle.chip.specs.Names.{portsOpen}
-use Rattle.chip.specs.declared.Chip.{Chip}
 use Rattle.script.specs.File.{stepCount}
 use Rattle.lists.specs.Numbers.{Returned, returned}
 use Rattle.script.specs.Numbers.{ofRefusal, checksTable}
@@ -16,8 +15,7 @@ use Rattle.script_commands.specs.Command.{bytesOfAll}
 use Rattle.script_commands.specs.Translation.{stepsTo, commandsTo, translated}
 use Rattle.script_commands.specs.declared.Translated.{Translated}
 use Rattle.script_commands.specs.declared.Translated.the-variants.{Commands, Refused}
-use Rattle.chip_run.specs.Run.{ran, ofEnding}
-use Rattle.chip_run.specs.declared.Ran.{Ran}
+use Rattle.chip_run.specs.Run.{Ran, ran, ofEnding}
 use Rattle.chip_run.specs.declared.Ending.the-variants.{Ended, Stopped}
 use Rattle.chip_run.specs.declared.Reason.the-variants.{Closed}
 use Rattle.chip_play.specs.ByName.{appliedAll}

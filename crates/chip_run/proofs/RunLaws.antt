@@ -9,7 +9,7 @@ use mathlib.Core.Path.{_≡_, refl, _∙_, ap, sym}
 use mathlib.Core.List.{List, [], _∷_, _++_}
 use lib.Dec.{eqb}
 use lib.ListN.{length, take, drop, take-append-drop}
-use Rattle.chip.specs.declared.Chip.{Chip}
+use Rattle.chip.specs.State.{Chip}
 use Rattle.script_commands.specs.Command.{bytesOf, bytesOfAll}
 use Rattle.script_commands.proofs.Codec.{bytes-read, length-bytes}
 use Rattle.script_commands.specs.declared.Command.{Command}
@@ -17,9 +17,7 @@ use Rattle.script_commands.specs.declared.Command.the-variants.{Out, In, Merge,
 use Rattle.script_commands.specs.declared.CommandRead.{CommandRead}
 use Rattle.script_commands.specs.declared.CommandRead.the-variants.{Known}
 use Rattle.lists.specs.Numbers.{returned}
-use Rattle.chip_run.specs.Run.{did, one, following, ranTo, runFrom, afterDone, carry, more, carried, reads, ran, least, ofEnding}
-use Rattle.chip_run.specs.declared.Did.{Did}
-use Rattle.chip_run.specs.declared.Ran.{Ran}
+use Rattle.chip_run.specs.Run.{Ran, Did, did, one, following, ranTo, runFrom, afterDone, carry, more, carried, reads, ran, least, ofEnding}
 use Rattle.chip_run.specs.declared.Reason.{Reason}
 use Rattle.chip_run.specs.declared.Reason.the-variants.{Form}
 use Rattle.chip_run.specs.declared.Verdict.{Verdict}

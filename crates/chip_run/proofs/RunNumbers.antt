@@ -11,7 +11,7 @@ use lib.Dec.{eqb, ltb}
 use lib.ListN.{length, take}
 use borrow.Author.Tests.{lt-ltb, le-ltb}
 use Rattle.chip.specs.Access.{answerNumber, portWritten, portRead}
-use Rattle.chip.specs.declared.Chip.{Chip}
+use Rattle.chip.specs.State.{Chip}
 use Rattle.chip.specs.declared.access.Answer.{Answer}
 use Rattle.chip.specs.declared.access.Answer.the-variants.{Done as Granted, Unlisted as NoPort, Closed as Shut}
 use Rattle.chip.proofs.NumberLaws.{write-number, read-number}
@@ -20,9 +20,7 @@ use Rattle.script_commands.specs.declared.Command.the-variants.{Out, In, Merge,
 use Rattle.script_commands.specs.declared.CommandRead.{CommandRead}
 use Rattle.script_commands.specs.declared.CommandRead.the-variants.{Known, Unknown}
 use Rattle.lists.specs.Numbers.{Returned, returned}
-use Rattle.chip_run.specs.Run.{answered, done, one, following, ranTo, runFrom, carry, more, carried, reads, ran, least, reasonNumber, verdictNumber, ofEnding, commandTable, stopTable, runTable}
-use Rattle.chip_run.specs.declared.Did.{Did}
-use Rattle.chip_run.specs.declared.Ran.{Ran}
+use Rattle.chip_run.specs.Run.{Ran, Did, answered, done, one, following, ranTo, runFrom, carry, more, carried, reads, ran, least, reasonNumber, verdictNumber, ofEnding, commandTable, stopTable, runTable}
 use Rattle.chip_run.specs.declared.Reason.{Reason}
 use Rattle.chip_run.specs.declared.Reason.the-variants.{Form}
 use Rattle.chip_run.specs.declared.Verdict.{Verdict}

@@ -7,11 +7,10 @@ use mathlib.Core.List.{List, _∷_}
 use lib.ListN.{length, getD, drop, drop-of-length-le}
 use lib.Seq.{drop-cons}
 use borrow.Author.Tests.{eq-eqb, ne-eqb}
-use Rattle.chip.specs.declared.Chip.{Chip}
+use Rattle.chip.specs.State.{Chip}
 use Rattle.script_commands.specs.Command.{commandOf}
 use Rattle.script_commands.specs.declared.CommandRead.{CommandRead}
-use Rattle.chip_run.specs.Run.{one, ranTo, runFrom, reads, ran}
-use Rattle.chip_run.specs.declared.Did.{Did}
+use Rattle.chip_run.specs.Run.{Did, one, ranTo, runFrom, reads, ran}
 use Rattle.chip_run.specs.declared.Reason.{Reason}
 use Rattle.chip_run.specs.declared.Reason.the-variants.{Form}
 use Rattle.chip_run.specs.declared.Verdict.the-variants.{Done, Bad}

@@ -8,12 +8,10 @@ use mathlib.Core.List.{List, [], _∷_}
 use lib.Dec.{eqb, ltb}
 use lib.ListN.{length, take, getD}
 use lib.Bits.{bitAnd, bitOr}
-use Rattle.chip.specs.Access.{accessTable, portWritten, portRead}
-use Rattle.chip.specs.declared.Chip.{Chip}
+use Rattle.chip.specs.Access.{Seen, Wrote, accessTable, portWritten, portRead}
+use Rattle.chip.specs.State.{Chip}
 use Rattle.chip.specs.declared.access.Answer.{Answer}
 use Rattle.chip.specs.declared.access.Answer.the-variants.{Done as Granted, Unlisted as NoPort, Closed as Shut}
-use Rattle.chip.specs.declared.access.Wrote.{Wrote}
-use Rattle.chip.specs.declared.access.Seen.{Seen}
 use Rattle.script_commands.specs.Command.{commandOf}
 use Rattle.script_commands.specs.declared.Command.{Command}
 use Rattle.script_commands.specs.declared.Command.the-variants.{Out, In, Merge, OutAcc}

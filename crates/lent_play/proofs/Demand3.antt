@@ -6,9 +6,8 @@ use mathlib.Core.Bool.{true}
 use mathlib.Core.List.{List}
 use lib.ListN.{length}
 use borrow.Author.Tests.{eq-eqb}
-use Rattle.chip.specs.State.{named}
+use Rattle.chip.specs.State.{Chip, named}
 use Rattle.chip.specs.Names.{portsOpen}
-use Rattle.chip.specs.declared.Chip.{Chip}
 use Rattle.script.specs.File.{checked}
 use Rattle.script.specs.declared.Checked.the-variants.{Accepted}
 use Rattle.script_commands.specs.Command.{bytesOfAll}

@@ -16,10 +16,9 @@ use Rattle.script_commands.specs.declared.Translated.{Translated}
 use Rattle.script_commands.specs.declared.Translated.the-variants.{Commands, Refused}
 use Rattle.chip_run.specs.Run.{ran}
 use Rattle.chip_run.specs.declared.Ending.{Ending}
-use Rattle.chip_play.specs.Played.{played, performed}
+use Rattle.chip_play.specs.Played.{Performance, played, performed}
 use Rattle.chip_play.specs.declared.Outcome.{Outcome}
 use Rattle.chip_play.specs.declared.Outcome.the-variants.{NotPlayed, Played}
-use Rattle.chip_play.specs.declared.Performance.{Performance}
 use Rattle.chip_play.proofs.Playing.{played-commands, played-refused, by-name, played-number}
 use Rattle.lent_chip.specs.Layout.{whole, view, spare, Holds}
 use Rattle.lent_chip.specs.Accesses.{isState, Left}

@@ -3,7 +3,7 @@ use Prim.Native.Nat.{ℕ}
 use mathlib.Core.Bool.{cond}
 use mathlib.Core.Path.{_≡_, ap, _∙_}
 use mathlib.Core.List.{List}
-use Rattle.chip.specs.declared.Chip.{Chip}
+use Rattle.chip.specs.State.{Chip}
 use Rattle.lists.specs.Numbers.{Returned, returned}
 use Rattle.lists.proofs.Tests.{of-cond}
 use Rattle.chip_run.specs.Run.{ran}

@@ -7,13 +7,12 @@ use mathlib.Core.List.{List}
 use lib.ListN.{length, drop}
 use borrow.Author.Tests.{eq-eqb}
 use Rattle.chip.specs.Access.{portWritten, portRead}
-use Rattle.chip.specs.declared.Chip.{Chip}
+use Rattle.chip.specs.State.{Chip}
 use Rattle.chip.proofs.NumberLaws.{write-refused, read-refused}
 use Rattle.script_commands.specs.declared.Command.the-variants.{Out, In, Merge, OutAcc}
 use Rattle.script_commands.specs.declared.CommandRead.{CommandRead}
 use Rattle.script_commands.specs.declared.CommandRead.the-variants.{Known, Unknown}
-use Rattle.chip_run.specs.Run.{afterWrite, afterRead, done, one, ranTo, runFrom, reads, ran, verdictNumber, reasonNumber}
-use Rattle.chip_run.specs.declared.Ran.{Ran}
+use Rattle.chip_run.specs.Run.{Ran, afterWrite, afterRead, done, one, ranTo, runFrom, reads, ran, verdictNumber, reasonNumber}
 use Rattle.chip_run.specs.declared.Ending.{Ending}
 use Rattle.chip_run.specs.declared.Ending.the-variants.{Stopped}
 use Rattle.chip_run.specs.declared.Reason.{Reason}

@@ -6,9 +6,7 @@ use mathlib.Core.Bool.{cond}
 use mathlib.Core.List.{List}
 use lib.Dec.{eqb}
 use Rattle.lists.specs.Numbers.{Returned, returned}
-use Rattle.chip_run.specs.Run.{ran, verdictNumber, ofEnding, runTable}
-use Rattle.chip_run.specs.declared.Did.{Did}
-use Rattle.chip_run.specs.declared.Ran.{Ran}
+use Rattle.chip_run.specs.Run.{Ran, Did, ran, verdictNumber, ofEnding, runTable}
 use Rattle.chip_run.specs.declared.Reason.{Reason}
 use Rattle.chip_run.specs.declared.Reason.the-variants.{Form, Closed, Unlisted}
 use Rattle.lent_chip.specs.Layout.{view, spare, Holds}

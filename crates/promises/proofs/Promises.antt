@@ -27,13 +27,12 @@ use Rattle.chip_ports.specs.Ports.{target}
 use Rattle.chip_ports.specs.declared.Target.the-variants.{Index}
 use Rattle.chip_ports.proofs.PortLaws as port-laws
 use Rattle.chip_ports.proofs.PortLaws.{listedPorts, linesFrom, documented}
-use Rattle.chip.specs.State.{Named, named, join, withIndex, withPicture, withTurn}
+use Rattle.chip.specs.State.{Chip, Named, named, join, withIndex, withPicture, withTurn}
 use Rattle.chip.specs.Names.{register, received, writableAt, portsOpen, picks3Dx, eightBit}
 use Rattle.chip.specs.Palette.{entry, rgb, shown}
 use Rattle.chip.specs.Access.{answerNumber, accessTable, portWritten, portRead, wrote}
 use Rattle.chip.specs.Reset.{resetByte}
 use Rattle.chip.specs.Reach.{Reach}
-use Rattle.chip.specs.declared.Chip.{Chip}
 use Rattle.chip.specs.declared.access.Answer.the-variants.{Done}
 use Rattle.chip.proofs.NumberLaws as number-laws
 use Rattle.chip.proofs.NameLaws as name-laws

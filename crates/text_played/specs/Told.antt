@@ -12,15 +12,13 @@ use lib.ListN.{length}
 use Rattle.lists.specs.Put.{put}
 use Rattle.lists.specs.Numbers.{Returned, returned}
 use Rattle.text.specs.Digits.{decimal}
-use Rattle.chip.specs.State.{Named, named}
+use Rattle.chip.specs.State.{Chip, Named, named}
 use Rattle.chip.specs.Reset.{reset}
-use Rattle.chip.specs.declared.Chip.{Chip}
 use Rattle.script.specs.Numbers.{ofRefusal}
 use Rattle.script.specs.declared.Refusal.the-variants.{Room}
-use Rattle.chip_play.specs.Played.{played}
+use Rattle.chip_play.specs.Played.{Performance, played}
 use Rattle.chip_play.specs.declared.Outcome.{Outcome}
 use Rattle.chip_play.specs.declared.Outcome.the-variants.{NotPlayed, Played}
-use Rattle.chip_play.specs.declared.Performance.{Performance}
 use Rattle.text_changes.specs.Changes.{changed}
 use Rattle.text.specs.Ascii.{ascii}
 use Rattle.text_played.specs.declared.Told.{Told}

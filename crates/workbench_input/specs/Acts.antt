@@ -8,14 +8,11 @@ use mathlib.Core.Bool.{Bool, true, cond, _&&_}
 use mathlib.Core.List.{List, _++_}
 use lib.Dec.{ltb, leb}
 use lib.ListN.{length, take, drop, replicate}
-use Rattle.chip.specs.State.{named}
+use Rattle.chip.specs.State.{Chip, named}
 use Rattle.chip.specs.Reset.{reset}
 use Rattle.chip.specs.Palette.{shown}
-use Rattle.chip.specs.Access.{answerNumber, portWritten, portRead}
-use Rattle.chip.specs.declared.Chip.{Chip}
+use Rattle.chip.specs.Access.{Seen, Wrote, answerNumber, portWritten, portRead}
 use Rattle.chip.specs.declared.Rgb.{Rgb}
-use Rattle.chip.specs.declared.access.Wrote.{Wrote}
-use Rattle.chip.specs.declared.access.Seen.{Seen}
 use Rattle.memory.specs.Memory.{lengthAllowed, byteNumber, byteValue, byteWritten}
 use Rattle.blit_frame.specs.Frame.{judgedNumber}
 use Rattle.blit.specs.Transfer.{transferred}

@@ -1,4 +1,5 @@
--- The index and then the turn.
+-- The picture, the index and then the turn.
+use Rattle.chip.proofs.ViewLaws.{picture-shown}
 use borrow.Author.Needs.{needs}
 use Rattle.chip.proofs.Chip.aim_attribute.Statement.{statement}
 use Rattle.chip.proofs.Chip.aim_attribute.Tie as tie
@@ -9,4 +10,4 @@ aim-attribute-spec =
     (tie.spec
     (λ c κs. search needs)
     (λ c κs. search needs)
-    (λ c. rw (c .with-turn .ensures, c .before .with-index .ensures)))
+    (λ c. rw (c .with-turn .ensures, c .before .with-index .ensures, picture-shown _ _)))

@@ -1,9 +1,11 @@
 -- By the group.
+use Rattle.chip.specs.View.{view}
 use borrow.Author.Needs.{needs}
 use Rattle.chip.proofs.Chip.index_byte.Statement.{statement}
 use Rattle.chip.proofs.Chip.index_byte.Tie as tie
 
 pub index-byte-spec : {M : Type 1} → statement M
+unfolding view
 index-byte-spec =
     tie.close
     (tie.spec

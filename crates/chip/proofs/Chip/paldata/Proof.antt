@@ -1,9 +1,11 @@
 -- The component at the position, by the mode.
+use Rattle.chip.specs.View.{view}
 use borrow.Author.Needs.{needs}
 use Rattle.chip.proofs.Chip.paldata.Statement.{statement}
 use Rattle.chip.proofs.Chip.paldata.Tie as tie
 
 pub paldata-spec : {M : Type 1} → statement M
+unfolding view
 paldata-spec =
     tie.close
     (tie.spec

@@ -1,9 +1,11 @@
 -- By the group, with what is kept of the byte.
+use Rattle.chip.specs.View.{view}
 use borrow.Author.Needs.{needs}
 use Rattle.chip.proofs.Chip.with_index.Statement.{statement}
 use Rattle.chip.proofs.Chip.with_index.Tie as tie
 
 pub with-index-spec : {M : Type 1} → statement M
+unfolding view
 with-index-spec =
     tie.close
     (tie.spec

@@ -1,4 +1,5 @@
 -- One line a target: what the callee did there.
+use Rattle.chip.proofs.ViewLaws.{loading-shown}
 use borrow.Author.Needs.{needs}
 use Rattle.chip.proofs.Chip.write_to.Statement.{statement}
 use Rattle.chip.proofs.Chip.write_to.Tie as tie
@@ -27,8 +28,8 @@ write-to-spec =
     (λ c. search needs)
     (λ c. rw (c .before .before .t .given .1, c .with-index .ensures))
     (λ c. rw (c .before .before .before .t2 .given .1, c .put .ensures, c .before .index .ensures))
-    (λ c. rw (c .before .before .enum-told .given .1, c .with-loading .ensures, c .before .aim .ensures))
-    (λ c. rw (c .before .before .enum-told2 .given .1, c .with-loading2 .ensures, c .before .aim2 .ensures))
+    (λ c. rw (c .before .before .enum-told .given .1, c .with-loading .ensures, c .before .aim .ensures, loading-shown _))
+    (λ c. rw (c .before .before .enum-told2 .given .1, c .with-loading2 .ensures, c .before .aim2 .ensures, loading-shown _))
     (λ c. rw (c .before .enum-told3 .given .1, c .load .ensures))
     (λ c. rw (c .before .enum-told4 .given .1, c .write-attribute .ensures))
     (λ c. rw (c .enum-told5 .given .1))
