@@ -2,3 +2,4 @@
 pub mod ByName
 pub mod Demand3
 pub mod Played
+pub mod View

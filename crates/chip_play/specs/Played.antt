@@ -21,7 +21,11 @@ use Rattle.chip_run.specs.declared.Reason.the-variants.{Closed}
 use Rattle.chip_play.specs.ByName.{appliedAll}
 use Rattle.chip_play.specs.declared.Outcome.{Outcome}
 use Rattle.chip_play.specs.declared.Outcome.the-variants.{NotPlayed, Played}
-use Rattle.chip_play.specs.declared.Performance.{Performance}
+
+-- the state after a script, and what became of it
+pub record Performance : Type 0 where
+  pub chip : Chip
+  pub outcome : Outcome
 
 -- what a run gives the caller
 abbrev pub performed : Ran → Performance

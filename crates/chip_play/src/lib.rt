@@ -2,8 +2,10 @@
 // specs/Demand3 and proved in proofs/Demand3; the entry here carries it.
 ghost use mathlib.Core.Path.{_≡_};
 ghost use lib.ListN.{length};
+ghost use Rattle.chip.specs.View.{view};
 ghost use Rattle.script_commands.specs.Translation.{translated, leftBy};
 ghost use Rattle.chip_play.specs.Played.{played, ByName, ofOutcome, playTable};
+ghost use Rattle.chip_play.specs.View.{viewPerformance};
 use chip::Chip;
 use chip_run::Ending;
 use chip_run::run;
@@ -25,10 +27,10 @@ pub struct Performance {
 
 // A script file on a chip. The buffer is lent for the commands, 32 bytes a step.
 pub fn play(chip: Chip, file: &[u8], buffer: &mut [u8]) -> Performance
-    ensures { λ r. ⌜ r ≡ played chip (now (file .entry)) (length (now (buffer .entry))) ⌝ }
-    ensures { λ r. ⌜ ByName chip (now (file .entry)) (length (now (buffer .entry))) r ⌝ }
+    ensures { λ r. ⌜ viewPerformance r ≡ played (view chip) (now (file .entry)) (length (now (buffer .entry))) ⌝ }
+    ensures { λ r. ⌜ ByName (view chip) (now (file .entry)) (length (now (buffer .entry))) (viewPerformance r) ⌝ }
     ensures { λ _. ⌜ now (buffer .exit) ≡ leftBy (translated (now (file .entry)) (length (now (buffer .entry)))) (now (file .entry)) (now (buffer .entry)) ⌝ }
-    ensures { λ r. ⌜ ofOutcome (r .outcome) ≡ playTable chip (now (file .entry)) (length (now (buffer .entry))) ⌝ }
+    ensures { λ r. ⌜ ofOutcome (r .outcome) ≡ playTable (view chip) (now (file .entry)) (length (now (buffer .entry))) ⌝ }
 {
     match translate(file, buffer) {
         Translated::Refused(why) => Performance {

@@ -1,2 +1,3 @@
 -- What has to be believed of a run is in Run.
 pub mod Run
+pub mod View

@@ -24,14 +24,18 @@ use Rattle.chip_run.specs.declared.Verdict.{Verdict}
 use Rattle.chip_run.specs.declared.Verdict.the-variants.{Done, Bad}
 use Rattle.chip_run.specs.declared.Ending.{Ending}
 use Rattle.chip_run.specs.declared.Ending.the-variants.{Ended, AtLimit, Stopped}
-use Rattle.chip_run.specs.declared.Did.{Did}
-use Rattle.chip_run.specs.declared.Ran.{Ran}
 
 -- a port access's answer as a verdict on its command
 abbrev pub answered : Answer → Verdict
 answered Granted = Done
 answered NoPort = Bad Unlisted
 answered Shut = Bad Closed
+
+-- one command: its verdict, the accumulator and the state after it
+pub record Did : Type 0 where
+  pub verdict : Verdict
+  pub acc : ℕ
+  pub chip : Chip
 
 abbrev pub did : Verdict → ℕ → Chip → Did
 did v acc c = record { verdict = v; acc = acc; chip = c }
@@ -53,6 +57,12 @@ done c acc (OutAcc port) = afterWrite acc (portWritten c port acc)
 unfoldable pub one : Chip → ℕ → CommandRead → Did
 one c acc (Known x) = done c acc x
 one c acc Unknown = did (Bad Form) acc c
+
+-- what a run hands back: the state, how many commands were carried out, and how it ended
+pub record Ran : Type 0 where
+  pub chip : Chip
+  pub count : ℕ
+  pub ending : Ending
 
 abbrev pub ranTo : Chip → ℕ → Ending → Ran
 ranTo c k e = record { chip = c; count = k; ending = e }

@@ -1,8 +1,10 @@
 // The run of a list of commands on a chip, up to a limit. Document 01, "Commands", numbers 10, 2 and 1 in that
 // order, and the form of the result: an enum that says how it ended, with an inner enum for the reason.
 ghost use mathlib.Core.Path.{_≡_};
+ghost use Rattle.chip.specs.View.{view};
 ghost use Rattle.script_commands.specs.Command.{commandOf};
 ghost use Rattle.chip_run.specs.Run.{answered, done, one, ran as ranOf, least, verdictNumber, ofEnding, commandTable, runTable};
+ghost use Rattle.chip_run.specs.View.{viewDid, viewRan};
 use chip::Chip;
 use chip::access::Answer;
 use script_commands::Command;
@@ -56,7 +58,7 @@ fn judge(a: Answer) -> Verdict
 
 // One command of a known form.
 fn carry_out(chip: Chip, acc: u8, c: Command) -> Did
-    ensures { λ r. ⌜ r ≡ done chip acc c ⌝ }
+    ensures { λ r. ⌜ viewDid r ≡ done (view chip) acc c ⌝ }
 {
     match c {
         Command::Out(port, v) => {
@@ -99,8 +101,8 @@ fn carry_out(chip: Chip, acc: u8, c: Command) -> Did
 
 // Four bytes as a command.
 pub fn command(chip: Chip, acc: u8, a: u8, b: u8, c: u8, d: u8) -> Did
-    ensures { λ r. ⌜ r ≡ one chip acc (commandOf a b c d) ⌝ }
-    ensures { λ r. ⌜ verdictNumber (r .verdict) ≡ commandTable chip (commandOf a b c d) ⌝ }
+    ensures { λ r. ⌜ viewDid r ≡ one (view chip) acc (commandOf a b c d) ⌝ }
+    ensures { λ r. ⌜ verdictNumber (r .verdict) ≡ commandTable (view chip) (commandOf a b c d) ⌝ }
 {
     let CommandRead::Known(x) = command_of(a, b, c, d) else {
         return Did {
@@ -114,9 +116,9 @@ pub fn command(chip: Chip, acc: u8, a: u8, b: u8, c: u8, d: u8) -> Did
 
 // The commands of a list, up to a limit.
 pub fn run(chip: Chip, commands: &[u8], limit: usize) -> Ran
-    ensures { λ r. ⌜ r ≡ ranOf chip (now (commands .entry)) limit ⌝ }
-    ensures { λ r. ⌜ r .count ≡ least chip (now (commands .entry)) limit ⌝ }
-    ensures { λ r. ⌜ ofEnding (r .ending) ≡ runTable chip (now (commands .entry)) limit ⌝ }
+    ensures { λ r. ⌜ viewRan r ≡ ranOf (view chip) (now (commands .entry)) limit ⌝ }
+    ensures { λ r. ⌜ r .count ≡ least (view chip) (now (commands .entry)) limit ⌝ }
+    ensures { λ r. ⌜ ofEnding (r .ending) ≡ runTable (view chip) (now (commands .entry)) limit ⌝ }
 {
     let size = commands.len();
     let mut chip = chip;

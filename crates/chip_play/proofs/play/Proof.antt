@@ -2,6 +2,7 @@
 use mathlib.Core.Path.{sym, ap, _∙_}
 use lib.ListN.{length}
 use lib.Seq.{length-take-le}
+use Rattle.chip.specs.View.{view}
 use Rattle.script_commands.specs.Translation.{leftBy}
 use Rattle.script_commands.specs.declared.Translated.{Translated}
 use Rattle.chip_play.proofs.Playing.{commands-fit, front-fits, front-commands, played-commands, played-refused, play-answered}
@@ -23,10 +24,10 @@ play-spec =
     (λ c κs. search needs)
     (λ c. search needs)
     (λ c. let is = sym (c .before .before .before .before .before .translate .ensures .0) ∙ c .before .why .given .1 in
-    let e = played-refused (c .before .before .before .before .before .before .before .before .before .args .chip) (c .before .before .before .before .before .before .before .before .before .args .file .now) (length (c .before .before .before .before .before .before .before .before .before .args .buffer .now)) _ is in
-    play-answered (c .before .before .before .before .before .before .before .before .before .args .chip) (c .before .before .before .before .before .before .before .before .before .args .file .now) (c .before .before .before .before .before .before .before .before .before .args .buffer .now) e (c .before .before .before .before .before .translate .ensures .1 .0 ∙ ap (λ (t : Translated). leftBy t (c .before .before .before .before .before .before .before .before .before .args .file .now) (c .before .before .before .before .before .before .before .before .before .args .buffer .now)) (c .before .before .before .before .before .translate .ensures .0)))
+    let e = played-refused (view (c .before .before .before .before .before .before .before .before .before .args .chip)) (c .before .before .before .before .before .before .before .before .before .args .file .now) (length (c .before .before .before .before .before .before .before .before .before .args .buffer .now)) _ is in
+    play-answered (view (c .before .before .before .before .before .before .before .before .before .args .chip)) (c .before .before .before .before .before .before .before .before .before .args .file .now) (c .before .before .before .before .before .before .before .before .before .args .buffer .now) e (c .before .before .before .before .before .translate .ensures .1 .0 ∙ ap (λ (t : Translated). leftBy t (c .before .before .before .before .before .before .before .before .before .args .file .now) (c .before .before .before .before .before .before .before .before .before .args .buffer .now)) (c .before .before .before .before .before .translate .ensures .0)))
     (λ c. search needs)
     (λ c. let is = sym (c .before .before .before .before .before .before .before .before .translate .ensures .0) ∙ c .before .before .before .before .k .given .1 in
     let left = c .before .before .before .before .before .before .before .before .translate .ensures .1 .0 ∙ ap (λ (t : Translated). leftBy t (c .before .before .before .before .before .before .before .before .before .before .before .before .args .file .now) (c .before .before .before .before .before .before .before .before .before .before .before .before .args .buffer .now)) (c .before .before .before .before .k .given .1) in
-    let e = played-commands (c .before .before .before .before .before .before .before .before .before .before .before .before .args .chip) (c .before .before .before .before .before .before .before .before .before .before .before .before .args .file .now) (length (c .before .before .before .before .before .before .before .before .before .before .before .before .args .buffer .now)) _ is (front-commands (c .before .before .before .before .before .before .before .before .before .before .before .before .args .file .now) (c .before .before .before .before .before .before .before .before .before .before .before .before .args .buffer .now) _ is left) (c .before .run .ensures .0) in
-    play-answered (c .before .before .before .before .before .before .before .before .before .before .before .before .args .chip) (c .before .before .before .before .before .before .before .before .before .before .before .before .args .file .now) (c .before .before .before .before .before .before .before .before .before .before .before .before .args .buffer .now) e (c .before .before .before .before .before .before .before .before .translate .ensures .1 .0 ∙ ap (λ (t : Translated). leftBy t (c .before .before .before .before .before .before .before .before .before .before .before .before .args .file .now) (c .before .before .before .before .before .before .before .before .before .before .before .before .args .buffer .now)) (c .before .before .before .before .before .before .before .before .translate .ensures .0))))
+    let e = played-commands (view (c .before .before .before .before .before .before .before .before .before .before .before .before .args .chip)) (c .before .before .before .before .before .before .before .before .before .before .before .before .args .file .now) (length (c .before .before .before .before .before .before .before .before .before .before .before .before .args .buffer .now)) _ is (front-commands (c .before .before .before .before .before .before .before .before .before .before .before .before .args .file .now) (c .before .before .before .before .before .before .before .before .before .before .before .before .args .buffer .now) _ is left) (c .before .run .ensures .0) in
+    play-answered (view (c .before .before .before .before .before .before .before .before .before .before .before .before .args .chip)) (c .before .before .before .before .before .before .before .before .before .before .before .before .args .file .now) (c .before .before .before .before .before .before .before .before .before .before .before .before .args .buffer .now) e (c .before .before .before .before .before .before .before .before .translate .ensures .1 .0 ∙ ap (λ (t : Translated). leftBy t (c .before .before .before .before .before .before .before .before .before .before .before .before .args .file .now) (c .before .before .before .before .before .before .before .before .before .before .before .before .args .buffer .now)) (c .before .before .before .before .before .before .before .before .translate .ensures .0))))

@@ -1,4 +1,5 @@
 -- Four bytes of no known form, and a command.
+use Rattle.chip.specs.View.{view}
 use Rattle.script_commands.specs.Command.{commandOf}
 use Rattle.chip_run.specs.Run.{one}
 use Rattle.chip_run.proofs.RunNumbers.{command-answered}
@@ -15,7 +16,7 @@ command-spec =
     (λ c. search needs)
     (λ c. search needs)
     (λ c. let a = c .before .before .before .args in
-    command-answered (a .chip) (a .acc) (commandOf (a .a) (a .b) (a .c) (a .d)) (rw (← c .before .before .command-of .ensures, c .enum-told .given .1)))
+    command-answered (view (a .chip)) (a .acc) (commandOf (a .a) (a .b) (a .c) (a .d)) (rw (← c .before .before .command-of .ensures, c .enum-told .given .1)))
     (λ c κs. search needs)
     (λ c. let a = c .before .before .before .before .before .args in
-    command-answered (a .chip) (a .acc) (commandOf (a .a) (a .b) (a .c) (a .d)) (rw (← c .before .before .before .before .command-of .ensures, c .before .before .x .given .1) (c .carry-out .ensures))))
+    command-answered (view (a .chip)) (a .acc) (commandOf (a .a) (a .b) (a .c) (a .d)) (rw (← c .before .before .before .before .command-of .ensures, c .before .before .x .given .1) (c .carry-out .ensures))))

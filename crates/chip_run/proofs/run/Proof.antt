@@ -2,6 +2,8 @@
 use Prim.Native.Nat.{_+_, _-_, _%_, _≤_, _<_}
 use mathlib.Core.Path.{_≡_, refl, _∙_}
 use lib.ListN.{length, drop}
+use Rattle.chip.specs.View.{view}
+use Rattle.chip_run.specs.View.{viewDid}
 use Rattle.chip_run.specs.Run.{runFrom, reads, ran}
 use Rattle.chip_run.proofs.RunNumbers.{run-answered}
 use Rattle.chip_run.proofs.Turns.{finished, limited, turned, halted, whole, uneven}
@@ -12,7 +14,7 @@ use Rattle.chip_run.proofs.run.Tie as tie
 
 abbrev Inv-loop : tie.InvT-loop
 Inv-loop commands limit size chip₀ acc₀ place₀ at₀ chip acc place at =
-    (runFrom chip acc place (limit - place) (reads (drop at commands)) ≡ ran chip₀ commands limit)
+    (runFrom (view chip) acc place (limit - place) (reads (drop at commands)) ≡ ran (view chip₀) commands limit)
     × (length commands % 4 ≡ 0) × (at % 4 ≡ 0) × (at ≤ length commands) × (place ≤ limit) × (size ≡ length commands)
 
 abbrev μ-loop : tie.MeasureT-loop
@@ -25,12 +27,12 @@ run-spec =
     Inv-loop
     μ-loop
     (λ c. run-answered _ _ _ (uneven _ _ _ (c .if1 .taken)))
-    (λ c. (whole (c .before .before .args .chip) (c .before .before .args .commands .now) (c .before .before .args .limit) (c .if1 .left), c .if1 .left, refl, omega arith, omega arith, refl))
+    (λ c. (whole (view (c .before .before .args .chip)) (c .before .before .args .commands .now) (c .before .before .args .limit) (c .if1 .left), c .if1 .left, refl, omega arith, omega arith, refl))
     (λ c. let l = c .before .before .loop in
     let a = c .before .before .before .before .before .args in
     let i = l .inv in
     let room : l .at + 3 < length (a .commands .now) = omega arith in
-    run-answered _ _ _ (limited (l .chip) (l .acc) (l .place) (a .limit) (a .commands .now) (l .at) room (c .if2 .taken) ∙ i .0))
+    run-answered _ _ _ (limited (view (l .chip)) (l .acc) (l .place) (a .limit) (a .commands .now) (l .at) room (c .if2 .taken) ∙ i .0))
     (λ c. omega arith)
     (λ c. omega arith)
     (λ c. omega arith)
@@ -45,7 +47,7 @@ run-spec =
     let i = l .inv in
     let room : l .at + 3 < length (a .commands .now) = omega arith in
     let below : l .place < a .limit = omega arith in
-    run-answered _ _ _ (halted (l .chip) (l .acc) (l .place) (a .limit) (a .commands .now) (l .at) room below (c .before .before .before .command .result) (c .before .before .before .command .ensures .0) _ (c .before .v .given .1) ∙ i .0))
+    run-answered _ _ _ (halted (view (l .chip)) (l .acc) (l .place) (a .limit) (a .commands .now) (l .at) room below (viewDid (c .before .before .before .command .result)) (c .before .before .before .command .ensures .0) _ (c .before .v .given .1) ∙ i .0))
     (λ c. search needs)
     (λ c. omega arith)
     (λ c. omega arith)
@@ -55,8 +57,8 @@ run-spec =
     let i = l .inv in
     let room : l .at + 3 < length (a .commands .now) = omega arith in
     let below : l .place < a .limit = omega arith in
-    (turned (l .chip) (l .acc) (l .place) (a .limit) (a .commands .now) (l .at) room below (c .before .before .before .command .result) (c .before .before .before .command .ensures .0) (c .before .enum-told .given .1) ∙ i .0, i .1, omega arith, omega arith, omega arith, i .5))
+    (turned (view (l .chip)) (l .acc) (l .place) (a .limit) (a .commands .now) (l .at) room below (viewDid (c .before .before .before .command .result)) (c .before .before .before .command .ensures .0) (c .before .enum-told .given .1) ∙ i .0, i .1, omega arith, omega arith, omega arith, i .5))
     (λ c. let l = c .before .loop in
     let a = c .before .before .before .before .args in
     let i = l .inv in
-    run-answered _ _ _ (finished (l .chip) (l .acc) (l .place) (a .limit) (a .commands .now) (l .at) (omega arith) ∙ i .0)))
+    run-answered _ _ _ (finished (view (l .chip)) (l .acc) (l .place) (a .limit) (a .commands .now) (l .at) (omega arith) ∙ i .0)))
