@@ -3,18 +3,19 @@
 // `setups` asks of a chip. The cases of document 02's requests are crate `cases_requests`.
 ghost use mathlib.Core.Path.{_≡_};
 ghost use Rattle.chip.specs.Access.{answerNumber, portWritten, portRead};
+ghost use Rattle.chip.specs.View.{view};
 use chip::Chip;
 
 // A chip after a write to a port, and the number of the write.
 pub fn after_write(c: Chip, port: u16, v: u8) -> Chip
-    ensures { λ r. ⌜ r ≡ portWritten c port v .chip ⌝ }
+    ensures { λ r. ⌜ view r ≡ portWritten (view c) port v .chip ⌝ }
 {
     let w = c.write(port, v);
     w.chip
 }
 
 pub fn write_number(c: Chip, port: u16, v: u8) -> u8
-    ensures { λ r. ⌜ r ≡ answerNumber (portWritten c port v .answer) ⌝ }
+    ensures { λ r. ⌜ r ≡ answerNumber (portWritten (view c) port v .answer) ⌝ }
 {
     let w = c.write(port, v);
     let answer = w.answer;
@@ -23,21 +24,21 @@ pub fn write_number(c: Chip, port: u16, v: u8) -> u8
 
 // A chip after a read of a port, the byte that the read gives, and its number.
 pub fn after_read(c: Chip, port: u16) -> Chip
-    ensures { λ r. ⌜ r ≡ portRead c port .chip ⌝ }
+    ensures { λ r. ⌜ view r ≡ portRead (view c) port .chip ⌝ }
 {
     let s = c.read(port);
     s.chip
 }
 
 pub fn byte_read(c: Chip, port: u16) -> u8
-    ensures { λ r. ⌜ r ≡ portRead c port .value ⌝ }
+    ensures { λ r. ⌜ r ≡ portRead (view c) port .value ⌝ }
 {
     let s = c.read(port);
     s.value
 }
 
 pub fn read_number(c: Chip, port: u16) -> u8
-    ensures { λ r. ⌜ r ≡ answerNumber (portRead c port .answer) ⌝ }
+    ensures { λ r. ⌜ r ≡ answerNumber (portRead (view c) port .answer) ⌝ }
 {
     let s = c.read(port);
     let answer = s.answer;

@@ -5,6 +5,7 @@ ghost use mathlib.Core.Path.{_≡_};
 ghost use Prim.Native.Nat.{_+_, _≤_, _<_};
 ghost use lib.ListN.{length};
 ghost use Rattle.chip.specs.State.{named};
+ghost use Rattle.chip.specs.View.{view};
 ghost use Rattle.lists.specs.Put.{Added};
 ghost use Rattle.text.specs.Adding.{AddedIn};
 ghost use Rattle.text_changes.specs.Changes.{registerLine, registerChange, indexes, registersTo, groupsTo, colourLine, sameColour, colourChange, coloursTo, changed};
@@ -57,7 +58,7 @@ fn index_count(g: u8) -> u16
 // Those of a group.
 fn put_registers(before: Chip, after: Chip, g: u8, out: &mut [u8], from: usize) -> usize
     requires { ⌜ from + 3584 ≤ length (now out) ⌝ }
-    ensures { λ r. ⌜ Added (now (out .entry)) from (registersTo (named before) (named after) g (indexes g)) (now (out .exit)) r ⌝ }
+    ensures { λ r. ⌜ Added (now (out .entry)) from (registersTo (named (view before)) (named (view after)) g (indexes g)) (now (out .exit)) r ⌝ }
 {
     let group = group_at(g);
     let n = index_count(g);
@@ -76,7 +77,7 @@ fn put_registers(before: Chip, after: Chip, g: u8, out: &mut [u8], from: usize) 
 // Those of all groups.
 fn put_groups(before: Chip, after: Chip, out: &mut [u8], from: usize) -> usize
     requires { ⌜ from + 32256 ≤ length (now out) ⌝ }
-    ensures { λ r. ⌜ Added (now (out .entry)) from (groupsTo (named before) (named after) 9) (now (out .exit)) r ⌝ }
+    ensures { λ r. ⌜ Added (now (out .entry)) from (groupsTo (named (view before)) (named (view after)) 9) (now (out .exit)) r ⌝ }
 {
     let mut at = from;
     let mut g: u8 = 0;
@@ -149,7 +150,7 @@ fn put_colour(out: &mut [u8], at: usize, e: u8, old: Rgb, new: Rgb) -> usize
 // Those of all entries.
 fn put_colours(before: Chip, after: Chip, out: &mut [u8], from: usize) -> usize
     requires { ⌜ from + 6144 ≤ length (now out) ⌝ }
-    ensures { λ r. ⌜ Added (now (out .entry)) from (coloursTo (named before) (named after) 256) (now (out .exit)) r ⌝ }
+    ensures { λ r. ⌜ Added (now (out .entry)) from (coloursTo (named (view before)) (named (view after)) 256) (now (out .exit)) r ⌝ }
 {
     let mut at = from;
     let mut k: u16 = 0;
@@ -166,7 +167,7 @@ fn put_colours(before: Chip, after: Chip, out: &mut [u8], from: usize) -> usize
 // What differs, behind what stands in an output with room for the longest text.
 fn put_changes(before: Chip, after: Chip, out: &mut [u8], at: usize) -> usize
     requires { ⌜ at + 38400 ≤ length (now out) ⌝ }
-    ensures { λ r. ⌜ Added (now (out .entry)) at (changed (named before) (named after)) (now (out .exit)) r ⌝ }
+    ensures { λ r. ⌜ Added (now (out .entry)) at (changed (named (view before)) (named (view after))) (now (out .exit)) r ⌝ }
 {
     let end = put_groups(before, after, out, at);
     put_colours(before, after, out, end)
@@ -175,7 +176,7 @@ fn put_changes(before: Chip, after: Chip, out: &mut [u8], at: usize) -> usize
 // What differs between two states, at a place of an output that has 38,400 bytes from there on; where the next byte goes.
 // With less room nothing changes.
 pub fn tell_changes(before: Chip, after: Chip, out: &mut [u8], at: usize) -> usize
-    ensures { λ r. ⌜ AddedIn 38400 (now (out .entry)) at (changed (named before) (named after)) (now (out .exit)) r ⌝ }
+    ensures { λ r. ⌜ AddedIn 38400 (now (out .entry)) at (changed (named (view before)) (named (view after))) (now (out .exit)) r ⌝ }
 {
     if has_room(out.len(), at, 38400, 0) {
         return put_changes(before, after, out, at);

@@ -6,6 +6,7 @@ ghost use Prim.Native.Nat.{_+_, _≤_};
 ghost use lib.ListN.{length};
 ghost use Rattle.lists.specs.Put.{Added};
 ghost use Rattle.chip.specs.State.{named};
+ghost use Rattle.chip.specs.View.{view};
 ghost use Rattle.script_commands.specs.Translation.{translated, leftBy as writtenBy};
 ghost use Rattle.text_changes.specs.Changes.{changed};
 ghost use Rattle.text_played.specs.Told.{fresh, commandsLine, tale, toldOf, leftOf, told, left};
@@ -26,7 +27,7 @@ pub enum Told {
 // What differs from a reset.
 fn put_changes(after: Chip, out: &mut [u8]) -> usize
     requires { ⌜ 38430 ≤ length (now out) ⌝ }
-    ensures { λ r. ⌜ Added (now (out .entry)) 0 (changed (named fresh) (named after)) (now (out .exit)) r ⌝ }
+    ensures { λ r. ⌜ Added (now (out .entry)) 0 (changed (named fresh) (named (view after))) (now (out .exit)) r ⌝ }
 {
     tell_changes(Chip::new(0xFF, 0xFF), after, out, 0)
 }
@@ -44,7 +45,7 @@ fn put_commands(out: &mut [u8], at: usize, count: usize) -> usize
 // The whole text.
 fn put_tale(after: Chip, count: usize, out: &mut [u8]) -> usize
     requires { ⌜ 38430 ≤ length (now out) ⌝ }
-    ensures { λ r. ⌜ Added (now (out .entry)) 0 (tale (named after) count) (now (out .exit)) r ⌝ }
+    ensures { λ r. ⌜ Added (now (out .entry)) 0 (tale (named (view after)) count) (now (out .exit)) r ⌝ }
 {
     let end = put_changes(after, out);
     put_commands(out, end, count)
@@ -52,8 +53,8 @@ fn put_tale(after: Chip, count: usize, out: &mut [u8]) -> usize
 
 // What became of a script, as text in `out`.
 fn say(after: Chip, outcome: Outcome, out: &mut [u8]) -> Told
-    ensures { λ r. ⌜ r ≡ toldOf outcome (named after) (length (now (out .entry))) ⌝ }
-    ensures { λ _. ⌜ now (out .exit) ≡ leftOf outcome (named after) (now (out .entry)) ⌝ }
+    ensures { λ r. ⌜ r ≡ toldOf outcome (named (view after)) (length (now (out .entry))) ⌝ }
+    ensures { λ _. ⌜ now (out .exit) ≡ leftOf outcome (named (view after)) (now (out .entry)) ⌝ }
 {
     match outcome {
         Outcome::NotPlayed(why) => Told::Refused(why),

@@ -6,6 +6,7 @@ ghost use Prim.Native.Nat.{_+_, _*_, _≤_};
 ghost use lib.ListN.{length};
 ghost use Rattle.chip_registers.specs.Groups.{rowOf};
 ghost use Rattle.chip.specs.State.{named};
+ghost use Rattle.chip.specs.View.{view};
 ghost use Rattle.lists.specs.Put.{Added};
 ghost use Rattle.text.specs.Adding.{AddedIn};
 ghost use Rattle.text_registers.specs.Line.{cell, cellsTo, across};
@@ -23,7 +24,7 @@ use text_steps::add_name;
 // A space, and the byte of a register, or `--` at an index that is not listed.
 fn add_cell(chip: Chip, g: Group, i: u8, out: &mut [u8], at: usize) -> usize
     requires { ⌜ at + 3 ≤ length (now out) ⌝ }
-    ensures { λ r. ⌜ Added (now (out .entry)) at (cell g (named chip) i) (now (out .exit)) r ⌝ }
+    ensures { λ r. ⌜ Added (now (out .entry)) at (cell g (named (view chip)) i) (now (out .exit)) r ⌝ }
 {
     match row_of(g, i) {
         Row::Listed(_, _) => {
@@ -38,7 +39,7 @@ fn add_cell(chip: Chip, g: Group, i: u8, out: &mut [u8], at: usize) -> usize
 // Those of the n indexes from i on.
 fn add_cells(chip: Chip, g: Group, i: u8, n: u8, out: &mut [u8], from: usize) -> usize
     requires { ⌜ (i + n ≤ 256) × (from + n * 3 ≤ length (now out)) ⌝ }
-    ensures { λ r. ⌜ Added (now (out .entry)) from (cellsTo g (named chip) i n) (now (out .exit)) r ⌝ }
+    ensures { λ r. ⌜ Added (now (out .entry)) from (cellsTo g (named (view chip)) i n) (now (out .exit)) r ⌝ }
 {
     let mut at = from;
     let mut k: u8 = 0;
@@ -83,7 +84,7 @@ fn count_across(g: u8) -> u8
 // The line of the indexes from i on, if one of them is listed.
 fn add_line(chip: Chip, g: u8, i: u8, out: &mut [u8], at: usize) -> usize
     requires { ⌜ (i + 16 ≤ 256) × (at + 56 ≤ length (now out)) ⌝ }
-    ensures { λ r. ⌜ Added (now (out .entry)) at (lineAt g (named chip) i) (now (out .exit)) r ⌝ }
+    ensures { λ r. ⌜ Added (now (out .entry)) at (lineAt g (named (view chip)) i) (now (out .exit)) r ⌝ }
 {
     let group = group_at(g);
     let n = count_across(g);
@@ -98,7 +99,7 @@ fn add_line(chip: Chip, g: u8, i: u8, out: &mut [u8], at: usize) -> usize
 // The lines of a group.
 fn add_lines(chip: Chip, g: u8, out: &mut [u8], from: usize) -> usize
     requires { ⌜ from + 896 ≤ length (now out) ⌝ }
-    ensures { λ r. ⌜ Added (now (out .entry)) from (linesTo g (named chip) (across g)) (now (out .exit)) r ⌝ }
+    ensures { λ r. ⌜ Added (now (out .entry)) from (linesTo g (named (view chip)) (across g)) (now (out .exit)) r ⌝ }
 {
     let n = count_across(g);
     let mut at = from;
@@ -113,7 +114,7 @@ fn add_lines(chip: Chip, g: u8, out: &mut [u8], from: usize) -> usize
 // The lines of a group, and an empty line.
 fn add_paragraph(chip: Chip, g: u8, out: &mut [u8], at: usize) -> usize
     requires { ⌜ at + 897 ≤ length (now out) ⌝ }
-    ensures { λ r. ⌜ Added (now (out .entry)) at (paragraph g (named chip)) (now (out .exit)) r ⌝ }
+    ensures { λ r. ⌜ Added (now (out .entry)) at (paragraph g (named (view chip))) (now (out .exit)) r ⌝ }
 {
     let end = add_lines(chip, g, out, at);
     add(out, end, b"\n")
@@ -122,7 +123,7 @@ fn add_paragraph(chip: Chip, g: u8, out: &mut [u8], at: usize) -> usize
 // The paragraphs of all groups.
 fn add_paragraphs(chip: Chip, out: &mut [u8], from: usize) -> usize
     requires { ⌜ from + 8192 ≤ length (now out) ⌝ }
-    ensures { λ r. ⌜ Added (now (out .entry)) from (dumped (named chip)) (now (out .exit)) r ⌝ }
+    ensures { λ r. ⌜ Added (now (out .entry)) from (dumped (named (view chip))) (now (out .exit)) r ⌝ }
 {
     let mut at = from;
     let mut g: u8 = 0;
@@ -136,7 +137,7 @@ fn add_paragraphs(chip: Chip, out: &mut [u8], from: usize) -> usize
 // All registers by name, at a place of an output that has 8,192 bytes from there on; where the next byte goes. With
 // less room nothing changes.
 pub fn dump(chip: Chip, out: &mut [u8], at: usize) -> usize
-    ensures { λ r. ⌜ AddedIn 8192 (now (out .entry)) at (dumped (named chip)) (now (out .exit)) r ⌝ }
+    ensures { λ r. ⌜ AddedIn 8192 (now (out .entry)) at (dumped (named (view chip))) (now (out .exit)) r ⌝ }
 {
     if has_room(out.len(), at, 8192, 0) {
         return add_paragraphs(chip, out, at);

@@ -9,9 +9,8 @@ use borrow.Author.Tests.{eq-eqb}
 use Rattle.workbench_replies.specs.Reply.{replyText}
 use Rattle.workbench_replies.specs.declared.Reply.the-variants.{Nothing}
 use Rattle.workbench_requests.specs.declared.Request.the-variants.{Quit, Pass}
-use Rattle.workbench_input.specs.Acts.{replied, acted, storeAfter}
+use Rattle.workbench_input.specs.Acts.{Bench, replied, acted, storeAfter}
 use Rattle.workbench_input.specs.Lines.{requestIn, lineActed, storeLeft, textOf}
-use Rattle.workbench_input.specs.declared.Bench.{Bench}
 
 module _ (b : Bench) (store line : List ℕ) where
   -- a line that is passed over leaves the bench and the store, and says nothing

@@ -11,8 +11,7 @@ use lib.ListN.{length, take, drop, getD, set, length-append, drop-of-length-le}
 use lib.Seq.{take-suc-set, length-take-le, take-at, drop-cons}
 use borrow.Author.Tests.{lt-ltb, le-ltb, leb-true, eq-eqb, ne-eqb}
 use Rattle.text.specs.Adding.{withAddedIn, behindIn}
-use Rattle.workbench_input.specs.Lines.{LentInput, place, hasRoom, lineSoFar, textSoFar, byteKept, withLine, lineDone, taken, fed, lineActed, storeLeft, textOf, answeredIn, outLeft}
-use Rattle.workbench_input.specs.declared.lines.Answered.{Answered}
+use Rattle.workbench_input.specs.Lines.{Answered, LentInput, place, hasRoom, lineSoFar, textSoFar, byteKept, withLine, lineDone, taken, fed, lineActed, storeLeft, textOf, answeredIn, outLeft}
 
 -- ---- the line so far grows by a byte, where there is room for it, and by none where there is not
 module _ (s : LentInput) (c : ℕ) where

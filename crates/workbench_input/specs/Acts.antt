@@ -20,10 +20,18 @@ use Rattle.workbench_requests.specs.declared.Request.{Request}
 use Rattle.workbench_requests.specs.declared.Request.the-variants.{Reset, Out, In, Pixel, Lend, Read, Write, Block, Dump, Help, Quit, Pass, Unknown}
 use Rattle.workbench_replies.specs.declared.Reply.{Reply}
 use Rattle.workbench_replies.specs.declared.Reply.the-variants.{Number, Byte, Colour, Registers, Requests, Nothing, Unknown as NoForm}
-use Rattle.workbench_input.specs.declared.Bench.{Bench}
-use Rattle.workbench_input.specs.declared.Acted.{Acted}
 
 -- ---- the bench
+
+pub record Bench : Type 0 where
+  pub chip : Chip
+  pub lent : ℕ
+  pub ended : Bool
+
+-- the bench after a request, and the reply
+pub record Acted : Type 0 where
+  pub bench : Bench
+  pub reply : Reply
 
 abbrev pub withChip : Bench → Chip → Bench
 withChip b c = record { chip = c; lent = b .lent; ended = b .ended }

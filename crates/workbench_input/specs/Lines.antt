@@ -14,10 +14,9 @@ use Rattle.workbench_requests.specs.Request.{requestOf}
 use Rattle.workbench_requests.specs.declared.Request.{Request}
 use Rattle.workbench_requests.specs.declared.Request.the-variants.{Pass, Unknown}
 use Rattle.workbench_replies.specs.Reply.{replyText}
-use Rattle.workbench_input.specs.Acts.{acted, storeAfter}
-use Rattle.workbench_input.specs.declared.Bench.{Bench}
-use Rattle.workbench_input.specs.declared.Acted.{Acted}
-use Rattle.workbench_input.specs.declared.lines.Answered.{Answered}
+use Rattle.workbench_input.specs.Acts.{Bench, Acted, acted, storeAfter}
+use Rattle.workbench_input.specs.View.{viewBench}
+use Rattle.workbench_input.specs.declared.lines.Answered.{Answered as KeptAnswered}
 use Rattle.workbench_input.specs.declared.lines.Input.{Input}
 use Rattle.workbench_input.specs.declared.lines.Fed.{Fed}
 
@@ -41,6 +40,11 @@ namedIn a = named (a .bench .chip)
 -- the reply as a text; and the reply put into an output, where it has room: where the next byte goes, and what it then holds
 abbrev pub textOf : Acted → List ℕ
 textOf a = replyText (namedIn a) (a .reply)
+
+-- the bench after a line, and where the next reply goes
+pub record Answered : Type 0 where
+  pub bench : Bench
+  pub next : ℕ
 
 abbrev pub answeredIn : List ℕ → ℕ → Acted → Answered
 answeredIn out at a = record { bench = a .bench; next = behindIn 8192 out at (textOf a) }
@@ -110,10 +114,13 @@ unfoldable pub fed : LentInput → ℕ → List ℕ → Place
 fed s i [] = place s i
 fed s i (c ∷ cs) = cond (hasRoom s) (fed (taken s c) (i + 1) cs) (place s i)
 
--- ---- the code's structs beside the lent bytes
+-- ---- the code's structs beside the lent bytes, as they are shown
+
+abbrev pub viewAnswered : KeptAnswered → Answered
+viewAnswered a = record { bench = viewBench (a .bench); next = a .next }
 
 abbrev pub lentInputAt : Input → List ℕ → List ℕ → List ℕ → LentInput
-lentInputAt i store line out = record { bench = i .bench; store = store; line = line; size = i .size; out = out; next = i .next }
+lentInputAt i store line out = record { bench = viewBench (i .bench); store = store; line = line; size = i .size; out = out; next = i .next }
 
 abbrev pub placeAt : Fed → List ℕ → List ℕ → List ℕ → Place
 placeAt f store line out = place (lentInputAt (f .input) store line out) (f .from)

@@ -7,11 +7,13 @@ ghost use lib.ListN.{length};
 ghost use Rattle.chip.specs.State.{named};
 ghost use Rattle.chip.specs.Access.{portWritten, portRead};
 ghost use Rattle.chip.specs.Palette.{shown};
+ghost use Rattle.chip.specs.View.{view};
 ghost use Rattle.memory.specs.Memory.{readNumber, readValue, byteNumber, byteValue, byteWritten};
 ghost use Rattle.blit_frame.specs.Frame.{judgedNumber};
 ghost use Rattle.blit.specs.Transfer.{transferred};
-ghost use Rattle.workbench_input.specs.Acts.{withChip, memory, withMemory, shorter, cleared, lentFrom, acted, storeAfter};
+ghost use Rattle.workbench_input.specs.Acts.{memory, withMemory, shorter, cleared, lentFrom, acted, storeAfter};
 ghost use Rattle.workbench_input.specs.Acts.{withEnd, replied, afterReset, afterOut, afterIn, afterPixel, afterLend, afterRead};
+ghost use Rattle.workbench_input.specs.View.{viewBench, viewActed, withKept};
 use blit_frame::Transfer;
 use chip::Chip;
 use memory::Read;
@@ -54,7 +56,7 @@ fn clear(store: &mut [u8], n: usize)
 
 // The bench with another chip.
 fn with_chip(b: Bench, chip: Chip) -> Bench
-    ensures { λ r. ⌜ r ≡ withChip b chip ⌝ }
+    ensures { λ r. ⌜ r ≡ withKept b chip ⌝ }
 {
     Bench {
         chip,
@@ -65,7 +67,7 @@ fn with_chip(b: Bench, chip: Chip) -> Bench
 
 // A reset with two pin bytes.
 fn restart(b: Bench, first: u8, second: u8) -> Acted
-    ensures { λ r. ⌜ r ≡ afterReset b first second ⌝ }
+    ensures { λ r. ⌜ viewActed r ≡ afterReset (viewBench b) first second ⌝ }
 {
     let before = b.chip;
     let chip = before.reset(first, second);
@@ -78,7 +80,7 @@ fn restart(b: Bench, first: u8, second: u8) -> Acted
 
 // A port write.
 fn output(b: Bench, port: u16, v: u8) -> Acted
-    ensures { λ r. ⌜ r ≡ afterOut b (portWritten (b .chip) port v) ⌝ }
+    ensures { λ r. ⌜ viewActed r ≡ afterOut (viewBench b) (portWritten (view (b .chip)) port v) ⌝ }
 {
     let before = b.chip;
     let w = before.write(port, v);
@@ -94,7 +96,7 @@ fn output(b: Bench, port: u16, v: u8) -> Acted
 
 // A port read.
 fn input(b: Bench, port: u16) -> Acted
-    ensures { λ r. ⌜ r ≡ afterIn b (portRead (b .chip) port) ⌝ }
+    ensures { λ r. ⌜ viewActed r ≡ afterIn (viewBench b) (portRead (view (b .chip)) port) ⌝ }
 {
     let before = b.chip;
     let s = before.read(port);
@@ -110,7 +112,7 @@ fn input(b: Bench, port: u16) -> Acted
 
 // The colour that a pixel shows.
 fn colour(b: Bench, pixel: u8) -> Acted
-    ensures { λ r. ⌜ r ≡ afterPixel b (shown (named (b .chip)) pixel) ⌝ }
+    ensures { λ r. ⌜ viewActed r ≡ afterPixel (viewBench b) (shown (named (view (b .chip))) pixel) ⌝ }
 {
     let chip = b.chip;
     let e = chip.shown(pixel);
@@ -122,7 +124,7 @@ fn colour(b: Bench, pixel: u8) -> Acted
 
 // The first n bytes of the store become the memory, all of them 0.
 fn lend(b: Bench, store: &mut [u8], n: usize) -> Acted
-    ensures { λ r. ⌜ r ≡ afterLend b (length (now (store .entry))) n ⌝ }
+    ensures { λ r. ⌜ viewActed r ≡ afterLend (viewBench b) (length (now (store .entry))) n ⌝ }
     ensures { λ r. ⌜ now (store .exit) ≡ lentFrom (now (store .entry)) n ⌝ }
 {
     if !memory::length_allowed(n) {
@@ -151,7 +153,7 @@ fn lend(b: Bench, store: &mut [u8], n: usize) -> Acted
 
 // What a read answers, as a reply.
 fn seen(b: Bench, r: Read) -> Acted
-    ensures { λ x. ⌜ x ≡ afterRead b (readNumber r) (readValue r) ⌝ }
+    ensures { λ x. ⌜ viewActed x ≡ afterRead (viewBench b) (readNumber r) (readValue r) ⌝ }
 {
     match r {
         Read::Byte(v) => Acted {
@@ -167,7 +169,7 @@ fn seen(b: Bench, r: Read) -> Acted
 
 // A linear read.
 fn load(b: Bench, store: &[u8], at: usize) -> Acted
-    ensures { λ r. ⌜ r ≡ afterRead b (byteNumber (length (memory (b .lent) (now (store .entry)))) at) (byteValue (memory (b .lent) (now (store .entry))) at) ⌝ }
+    ensures { λ r. ⌜ viewActed r ≡ afterRead (viewBench b) (byteNumber (length (memory (b .lent) (now (store .entry)))) at) (byteValue (memory (b .lent) (now (store .entry))) at) ⌝ }
 {
     let n = shorter_of(b.lent, store.len());
     let r = memory::read_byte(&store[..n], at);
@@ -196,7 +198,7 @@ fn carry(lent: usize, store: &mut [u8], t: Transfer) -> u8
 
 // The end: no line behind it is answered.
 fn close(b: Bench) -> Acted
-    ensures { λ r. ⌜ r ≡ replied (withEnd b) Reply.Nothing ⌝ }
+    ensures { λ r. ⌜ viewActed r ≡ replied (withEnd (viewBench b)) Reply.Nothing ⌝ }
 {
     let chip = b.chip;
     Acted {
@@ -211,8 +213,8 @@ fn close(b: Bench) -> Acted
 
 // A request carried out.
 pub fn act(b: Bench, store: &mut [u8], r: Request) -> Acted
-    ensures { λ x. ⌜ x ≡ acted b (now (store .entry)) r ⌝ }
-    ensures { λ x. ⌜ now (store .exit) ≡ storeAfter b (now (store .entry)) r ⌝ }
+    ensures { λ x. ⌜ viewActed x ≡ acted (viewBench b) (now (store .entry)) r ⌝ }
+    ensures { λ x. ⌜ now (store .exit) ≡ storeAfter (viewBench b) (now (store .entry)) r ⌝ }
 {
     match r {
         Request::Reset(first, second) => restart(b, first, second),

@@ -5,7 +5,8 @@ ghost use Prim.Native.Nat.{_+_};
 ghost use mathlib.Core.Bool.{cond};
 ghost use lib.Dec.{leb, ltb};
 ghost use lib.ListN.{length, take, set};
-ghost use Rattle.workbench_input.specs.Lines.{requestIn, lineActed, storeLeft, answeredIn, outLeft, placeAt, fedFrom};
+ghost use Rattle.workbench_input.specs.Lines.{requestIn, lineActed, storeLeft, answeredIn, outLeft, viewAnswered, placeAt, fedFrom};
+ghost use Rattle.workbench_input.specs.View.{viewBench};
 use crate::Bench;
 use crate::act;
 use crate::shorter_of;
@@ -53,9 +54,9 @@ fn request_in(ended: bool, line: &[u8]) -> Request
 
 // A line answered: its reply goes behind those that stand in the output.
 pub fn answer(b: Bench, store: &mut [u8], line: &[u8], out: &mut [u8], at: usize) -> Answered
-    ensures { λ r. ⌜ r ≡ answeredIn (now (out .entry)) at (lineActed b (now (store .entry)) (now (line .entry))) ⌝ }
-    ensures { λ r. ⌜ now (store .exit) ≡ storeLeft b (now (store .entry)) (now (line .entry)) ⌝ }
-    ensures { λ r. ⌜ now (out .exit) ≡ outLeft (now (out .entry)) at (lineActed b (now (store .entry)) (now (line .entry))) ⌝ }
+    ensures { λ r. ⌜ viewAnswered r ≡ answeredIn (now (out .entry)) at (lineActed (viewBench b) (now (store .entry)) (now (line .entry))) ⌝ }
+    ensures { λ r. ⌜ now (store .exit) ≡ storeLeft (viewBench b) (now (store .entry)) (now (line .entry)) ⌝ }
+    ensures { λ r. ⌜ now (out .exit) ≡ outLeft (now (out .entry)) at (lineActed (viewBench b) (now (store .entry)) (now (line .entry))) ⌝ }
 {
     let r = request_in(b.ended, line);
     let a = act(b, store, r);
@@ -87,9 +88,9 @@ fn end_line(
     out: &mut [u8],
     at: usize,
 ) -> Answered
-    ensures { λ r. ⌜ r ≡ answeredIn (now (out .entry)) at (lineActed b (now (store .entry)) (take size (now (line .entry)))) ⌝ }
-    ensures { λ r. ⌜ now (store .exit) ≡ storeLeft b (now (store .entry)) (take size (now (line .entry))) ⌝ }
-    ensures { λ r. ⌜ now (out .exit) ≡ outLeft (now (out .entry)) at (lineActed b (now (store .entry)) (take size (now (line .entry)))) ⌝ }
+    ensures { λ r. ⌜ viewAnswered r ≡ answeredIn (now (out .entry)) at (lineActed (viewBench b) (now (store .entry)) (take size (now (line .entry)))) ⌝ }
+    ensures { λ r. ⌜ now (store .exit) ≡ storeLeft (viewBench b) (now (store .entry)) (take size (now (line .entry))) ⌝ }
+    ensures { λ r. ⌜ now (out .exit) ≡ outLeft (now (out .entry)) at (lineActed (viewBench b) (now (store .entry)) (take size (now (line .entry)))) ⌝ }
 {
     let n = shorter_of(size, line.len());
     answer(b, store, &line[..n], out, at)

@@ -3,6 +3,7 @@
 ghost use Prim.Native.Nat.{_+_, _≤_};
 ghost use lib.ListN.{length};
 ghost use Rattle.chip.specs.State.{named};
+ghost use Rattle.chip.specs.View.{view};
 ghost use Rattle.lists.specs.Put.{Added};
 ghost use Rattle.text.specs.Adding.{AddedIn};
 ghost use Rattle.workbench_replies.specs.Reply.{replyText};
@@ -34,7 +35,7 @@ pub enum Reply {
 // The text of an answer.
 fn add_reply(chip: Chip, reply: Reply, out: &mut [u8], at: usize) -> usize
     requires { ⌜ at + 8192 ≤ length (now out) ⌝ }
-    ensures { λ r. ⌜ Added (now (out .entry)) at (replyText (named chip) reply) (now (out .exit)) r ⌝ }
+    ensures { λ r. ⌜ Added (now (out .entry)) at (replyText (named (view chip)) reply) (now (out .exit)) r ⌝ }
 {
     match reply {
         Reply::Number(k) => {
@@ -80,7 +81,7 @@ fn add_reply(chip: Chip, reply: Reply, out: &mut [u8], at: usize) -> usize
 // The text of an answer, at a place of an output that has 8,192 bytes from there on; where the next byte goes. With less
 // room nothing changes.
 pub fn print(chip: Chip, reply: Reply, out: &mut [u8], at: usize) -> usize
-    ensures { λ r. ⌜ AddedIn 8192 (now (out .entry)) at (replyText (named chip) reply) (now (out .exit)) r ⌝ }
+    ensures { λ r. ⌜ AddedIn 8192 (now (out .entry)) at (replyText (named (view chip)) reply) (now (out .exit)) r ⌝ }
 {
     if has_room(out.len(), at, 8192, 0) {
         return add_reply(chip, reply, out, at);

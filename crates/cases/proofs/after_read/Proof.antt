@@ -4,4 +4,4 @@ use Rattle.cases.proofs.after_read.Statement.{statement}
 use Rattle.cases.proofs.after_read.Tie as tie
 
 pub after-read-spec : {M : Type 1} → statement M
-after-read-spec = tie.close (tie.spec (λ c κs. search needs) (λ c. rw (c .before .read .ensures .0)))
+after-read-spec = tie.close (tie.spec (λ c κs. search needs) (λ c. rw (← c .before .read .ensures .0)))

@@ -4,4 +4,4 @@ use Rattle.cases.proofs.after_write.Statement.{statement}
 use Rattle.cases.proofs.after_write.Tie as tie
 
 pub after-write-spec : {M : Type 1} → statement M
-after-write-spec = tie.close (tie.spec (λ c κs. search needs) (λ c. rw (c .before .write .ensures .0)))
+after-write-spec = tie.close (tie.spec (λ c κs. search needs) (λ c. rw (← c .before .write .ensures .0)))

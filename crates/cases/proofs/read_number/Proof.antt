@@ -4,4 +4,4 @@ use Rattle.cases.proofs.read_number.Statement.{statement}
 use Rattle.cases.proofs.read_number.Tie as tie
 
 pub read-number-spec : {M : Type 1} → statement M
-read-number-spec = tie.close (tie.spec (λ c κs. search needs) (λ c κs. search needs) (λ c. rw (c .number .ensures, c .before .read .ensures .0)))
+read-number-spec = tie.close (tie.spec (λ c κs. search needs) (λ c κs. search needs) (λ c. rw (c .number .ensures, ← c .before .read .ensures .0)))

@@ -6,6 +6,7 @@ use borrow.Author.Needs.{needs}
 use denote.Ref.{now}
 use lib.ListN.{length}
 use Rattle.chip.specs.State.{named}
+use Rattle.chip.specs.View.{view}
 use Rattle.chip.specs.Palette.{entry}
 use Rattle.lists.specs.Put.{Added}
 use Rattle.text_registers.proofs.Growing.{added-start, room-next, added-next}
@@ -16,7 +17,7 @@ use Rattle.text_changes.proofs.put_colours.Tie as tie
 
 abbrev Inv-loop : tie.InvT-loop
 Inv-loop before after out₀ from at₀ k₀ out at k =
-    Added out₀ from (coloursTo (named before) (named after) k) out at × (length out ≡ length out₀) × (k ≤ 256)
+    Added out₀ from (coloursTo (named (view before)) (named (view after)) k) out at × (length out ≡ length out₀) × (k ≤ 256)
 
 abbrev μ-loop : tie.MeasureT-loop
 μ-loop before after out₀ from at₀ k₀ out at k = 256 - k
@@ -34,14 +35,14 @@ put-colours-spec =
     -- room for a line
     (λ c κs. let l = c .before .before .before .before .loop in
     let a = c .before .before .before .before .before .before .args in
-    room-next (λ (e : ℕ). colourChange e (entry (named (a .before)) e) (entry (named (a .after)) e)) 24 (λ e. colour-most e _ _) (now (a .out)) (a .from) (l .k) (omega arith) (l .out) (l .at) (l .inv .0) (l .inv .1))
+    room-next (λ (e : ℕ). colourChange e (entry (named (view (a .before))) e) (entry (named (view (a .after))) e)) 24 (λ e. colour-most e _ _) (now (a .out)) (a .from) (l .k) (omega arith) (l .out) (l .at) (l .inv .0) (l .inv .1))
     (λ c. omega arith)
     (λ c. omega arith)
     -- a line more, or none
     (λ c. let l = c .before .before .before .before .before .before .before .loop in
     let a = c .before .before .before .before .before .before .before .before .before .args in
     let one = rw (c .before .before .before .before .before .entry .ensures, c .before .before .before .before .entry2 .ensures) at (c .before .before .put-colour .ensures) in
-    let (more, same) = added-next (λ (e : ℕ). colourChange e (entry (named (a .before)) e) (entry (named (a .after)) e)) 24 (λ e. colour-most e _ _) (now (a .out)) (a .from) (l .k) (omega arith) (l .out) (l .at) (l .inv .0) (l .inv .1) one in
+    let (more, same) = added-next (λ (e : ℕ). colourChange e (entry (named (view (a .before))) e) (entry (named (view (a .after))) e)) 24 (λ e. colour-most e _ _) (now (a .out)) (a .from) (l .k) (omega arith) (l .out) (l .at) (l .inv .0) (l .inv .1) one in
     (more, same, omega arith))
     (λ c. c .before .loop .inv .1)
     -- all of them

@@ -6,6 +6,7 @@ use borrow.Author.Needs.{needs}
 use denote.Ref.{now}
 use lib.ListN.{length}
 use Rattle.chip.specs.State.{named}
+use Rattle.chip.specs.View.{view}
 use Rattle.lists.specs.Put.{Added}
 use Rattle.text_registers.proofs.Growing.{added-start, room-next, added-next}
 use Rattle.text_changes.specs.Changes.{registerAt, registersTo}
@@ -15,7 +16,7 @@ use Rattle.text_changes.proofs.put_registers.Tie as tie
 
 abbrev Inv-loop : tie.InvT-loop
 Inv-loop before after g out₀ from group n at₀ k₀ out at k =
-    Added out₀ from (registersTo (named before) (named after) g k) out at × (length out ≡ length out₀) × (k ≤ n)
+    Added out₀ from (registersTo (named (view before)) (named (view after)) g k) out at × (length out ≡ length out₀) × (k ≤ n)
 
 abbrev μ-loop : tie.MeasureT-loop
 μ-loop before after g out₀ from group n at₀ k₀ out at k = n - k
@@ -35,14 +36,14 @@ put-registers-spec =
     -- room for a line
     (λ c κs. let l = c .before .before .before .before .loop in
     let a = c .before .before .before .before .before .before .before .before .args in
-    room-next (λ (i : ℕ). registerAt (named (a .before)) (named (a .after)) (a .g) i) 14 (λ i. register-most (a .g) i _ _) (now (a .out)) (a .from) (l .k) (omega arith) (l .out) (l .at) (l .inv .0) (l .inv .1))
+    room-next (λ (i : ℕ). registerAt (named (view (a .before))) (named (view (a .after))) (a .g) i) 14 (λ i. register-most (a .g) i _ _) (now (a .out)) (a .from) (l .k) (omega arith) (l .out) (l .at) (l .inv .0) (l .inv .1))
     (λ c. omega arith)
     (λ c. omega arith)
     -- a line more, or none
     (λ c. let l = c .before .before .before .before .before .before .before .loop in
     let a = c .before .before .before .before .before .before .before .before .before .before .before .args in
     let one = rw (c .before .before .before .before .before .get .ensures, c .before .before .before .before .get2 .ensures, c .before .before .before .before .before .before .before .before .before .group-at .ensures) at (c .before .before .put-register .ensures) in
-    let (more, same) = added-next (λ (i : ℕ). registerAt (named (a .before)) (named (a .after)) (a .g) i) 14 (λ i. register-most (a .g) i _ _) (now (a .out)) (a .from) (l .k) (omega arith) (l .out) (l .at) (l .inv .0) (l .inv .1) one in
+    let (more, same) = added-next (λ (i : ℕ). registerAt (named (view (a .before))) (named (view (a .after))) (a .g) i) 14 (λ i. register-most (a .g) i _ _) (now (a .out)) (a .from) (l .k) (omega arith) (l .out) (l .at) (l .inv .0) (l .inv .1) one in
     (more, same, omega arith))
     (λ c. c .before .loop .inv .1)
     -- all of them

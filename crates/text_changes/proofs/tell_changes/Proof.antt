@@ -3,6 +3,7 @@ use borrow.Author.Needs.{needs}
 use native.Mathlib.Omega.{arith}
 use denote.Ref.{now}
 use Rattle.chip.specs.State.{named}
+use Rattle.chip.specs.View.{view}
 use Rattle.text.proofs.Adding.{none-in, in-added}
 use Rattle.text_changes.specs.Changes.{changed}
 use Rattle.text_changes.proofs.Lengths.{changed-most}
@@ -16,5 +17,5 @@ tell-changes-spec =
     (λ c κs. search needs)
     (λ c κs. omega (arith, c .before .before .has-room .ensures .1 .0 (c .before .if1 .taken)))
     (λ c. search needs)
-    (λ c. let a = c .before .before .before .before .before .before .before .args in in-added 38400 (now (a .out)) (a .at) (changed (named (a .«before»)) (named (a .after))) (omega (arith, c .before .before .before .before .before .has-room .ensures .1 .0 (c .before .before .before .before .if1 .taken))) (changed-most (named (a .«before»)) (named (a .after))) (c .before .before .put-changes .ensures))
-    (λ c. let a = c .before .before .before .args in none-in 38400 (now (a .out)) (a .at) (changed (named (a .«before»)) (named (a .after))) (omega (arith, c .before .has-room .ensures .1 .1 (c .if1 .left)))))
+    (λ c. let a = c .before .before .before .before .before .before .before .args in in-added 38400 (now (a .out)) (a .at) (changed (named (view (a .«before»))) (named (view (a .after)))) (omega (arith, c .before .before .before .before .before .has-room .ensures .1 .0 (c .before .before .before .before .if1 .taken))) (changed-most (named (view (a .«before»))) (named (view (a .after)))) (c .before .before .put-changes .ensures))
+    (λ c. let a = c .before .before .before .args in none-in 38400 (now (a .out)) (a .at) (changed (named (view (a .«before»))) (named (view (a .after)))) (omega (arith, c .before .has-room .ensures .1 .1 (c .if1 .left)))))

@@ -2,6 +2,7 @@
 use borrow.Author.Needs.{needs}
 use native.Mathlib.Omega.{arith}
 use Rattle.chip.specs.State.{named}
+use Rattle.chip.specs.View.{view}
 use Rattle.lists.proofs.Put.{added-append}
 use Rattle.text_changes.proofs.Lengths.{changed-most}
 use Rattle.text_played.specs.Told.{fresh, tale}
@@ -15,9 +16,9 @@ put-tale-spec =
     tie.close
     (tie.spec
     (λ c κs. search needs)
-    (λ c κs. omega (arith, changed-most (named fresh) (named (c .before .before .before .before .before .before .args .after))))
+    (λ c κs. omega (arith, changed-most (named fresh) (named (view (c .before .before .before .before .before .before .args .after)))))
     (λ c. search needs)
     (λ c. let a = c .before .before .before .before .before .before .before .before .before .args in
     let d = c .before .before .before .before .before .before .put-changes .ensures in
     let e = c .before .before .put-commands .ensures in
-    added-append d e (omega (arith, changed-most (named fresh) (named (a .after)), line-most (a .count)))))
+    added-append d e (omega (arith, changed-most (named fresh) (named (view (a .after))), line-most (a .count)))))

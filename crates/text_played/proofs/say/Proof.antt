@@ -5,6 +5,7 @@ use mathlib.Core.Path.{_≡_, ap}
 use lib.ListN.{length}
 use borrow.Author.Tests.{lt-ltb, le-ltb}
 use Rattle.chip.specs.State.{named}
+use Rattle.chip.specs.View.{view}
 use Rattle.text_played.specs.Told.{tale}
 use Rattle.text_played.specs.declared.Told.the-variants.{Text}
 use Rattle.text_played.proofs.say.Statement.{statement}
@@ -24,5 +25,5 @@ say-spec =
     -- the text
     (λ c. search needs)
     (λ c. let e = c .before .before .put-tale .ensures in
-    let n : c .before .before .put-tale .result ≡ length (tale (named (c .before .before .before .before .before .before .before .before .before .args .after)) (c .before .before .before .before .before .before .outcome2 .given .0 .0)) = omega arith in
+    let n : c .before .before .put-tale .result ≡ length (tale (named (view (c .before .before .before .before .before .before .before .before .before .args .after))) (c .before .before .before .before .before .before .outcome2 .given .0 .0)) = omega arith in
     (rw (c .before .before .before .before .before .before .outcome2 .given .1, le-ltb _ _ (c .before .before .before .before .if1 .left)) (ap Text n), rw (c .before .before .before .before .before .before .outcome2 .given .1, le-ltb _ _ (c .before .before .before .before .if1 .left)) (e .now))))

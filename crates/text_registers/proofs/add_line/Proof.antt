@@ -5,6 +5,7 @@ use borrow.Author.Needs.{needs}
 use borrow.Author.Tests.{not-true, not-false}
 use Rattle.chip_registers.specs.Groups.{groupAt}
 use Rattle.chip.specs.State.{named}
+use Rattle.chip.specs.View.{view}
 use Rattle.lists.proofs.Put.{added-none, added-append}
 use Rattle.text.proofs.Adding.{then-in}
 use Rattle.text_steps.proofs.Lengths.{name-most}
@@ -38,6 +39,6 @@ add-line-spec =
     let name = c .before .before .before .before .before .before .before .before .before .before .before .add-name .ensures .here (omega arith) in
     let cells = rw (group, across-it .0) at (c .before .before .before .before .before .before .before .add-cells .ensures) in
     let seven = name-most (a .g) (a .i) in
-    let all = cells-length (groupAt (a .g)) (named (a .chip)) (a .i) (across (a .g)) in
+    let all = cells-length (groupAt (a .g)) (named (view (a .chip))) (a .i) (across (a .g)) in
     rw (sym any ∙ not-false _ (c .before .before .before .before .before .before .before .before .before .before .before .before .before .if1 .left))
     (then-in 1 (added-append name cells (omega arith)) (c .before .before .add .ensures) (omega arith))))

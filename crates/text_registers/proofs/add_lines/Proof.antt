@@ -6,6 +6,7 @@ use borrow.Author.Needs.{needs}
 use denote.Ref.{now}
 use lib.ListN.{length}
 use Rattle.chip.specs.State.{named}
+use Rattle.chip.specs.View.{view}
 use Rattle.lists.specs.Put.{Added}
 use Rattle.text_registers.specs.Text.{lineAt, linesTo}
 use Rattle.text_registers.proofs.Growing.{added-start, room-next, added-next}
@@ -14,7 +15,7 @@ use Rattle.text_registers.proofs.add_lines.Statement.{statement}
 use Rattle.text_registers.proofs.add_lines.Tie as tie
 
 abbrev Inv-loop : tie.InvT-loop
-Inv-loop chip g out₀ from n at₀ k₀ out at k = Added out₀ from (linesTo g (named chip) k) out at × (length out ≡ length out₀) × (k ≤ n)
+Inv-loop chip g out₀ from n at₀ k₀ out at k = Added out₀ from (linesTo g (named (view chip)) k) out at × (length out ≡ length out₀) × (k ≤ n)
 
 abbrev μ-loop : tie.MeasureT-loop
 μ-loop chip g out₀ from n at₀ k₀ out at k = n - k
@@ -31,13 +32,13 @@ add-lines-spec =
     -- room for a line
     (λ c κs. let l = c .before .before .loop in
     let a = c .before .before .before .before .before .args in
-    (omega arith, room-next (λ (j : ℕ). lineAt (a .g) (named (a .chip)) (16 * j)) 56 (λ j. lineAt-most (a .g) (named (a .chip)) (16 * j)) (now (a .out)) (a .from) (l .k) (omega arith) (l .out) (l .at) (l .inv .0) (l .inv .1)))
+    (omega arith, room-next (λ (j : ℕ). lineAt (a .g) (named (view (a .chip))) (16 * j)) 56 (λ j. lineAt-most (a .g) (named (view (a .chip))) (16 * j)) (now (a .out)) (a .from) (l .k) (omega arith) (l .out) (l .at) (l .inv .0) (l .inv .1)))
     (λ c. omega arith)
     (λ c. omega arith)
     -- a line more
     (λ c. let l = c .before .before .before .before .before .loop in
     let a = c .before .before .before .before .before .before .before .before .args in
-    let (more, same) = added-next (λ (j : ℕ). lineAt (a .g) (named (a .chip)) (16 * j)) 56 (λ j. lineAt-most (a .g) (named (a .chip)) (16 * j)) (now (a .out)) (a .from) (l .k) (omega arith) (l .out) (l .at) (l .inv .0) (l .inv .1) (c .before .before .add-line .ensures) in
+    let (more, same) = added-next (λ (j : ℕ). lineAt (a .g) (named (view (a .chip))) (16 * j)) 56 (λ j. lineAt-most (a .g) (named (view (a .chip))) (16 * j)) (now (a .out)) (a .from) (l .k) (omega arith) (l .out) (l .at) (l .inv .0) (l .inv .1) (c .before .before .add-line .ensures) in
     (more, same, omega arith))
     (λ c. c .before .loop .inv .1)
     -- all of them

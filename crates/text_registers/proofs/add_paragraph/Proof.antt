@@ -2,6 +2,7 @@
 use native.Mathlib.Omega.{arith}
 use borrow.Author.Needs.{needs}
 use Rattle.chip.specs.State.{named}
+use Rattle.chip.specs.View.{view}
 use Rattle.text.proofs.Adding.{then-in}
 use Rattle.text_registers.specs.Line.{across}
 use Rattle.text_registers.specs.Text.{paragraph}
@@ -20,4 +21,4 @@ add-paragraph-spec =
     (λ c. search needs)
     (λ c. let a = c .before .before .before .before .before .before .before .before .before .before .args in
     then-in 1 (c .before .before .before .before .before .before .before .add-lines .ensures) (c .before .before .add .ensures)
-    (omega (arith, lines-most (a .g) (named (a .chip)) (across (a .g)), across-most (a .g)))))
+    (omega (arith, lines-most (a .g) (named (view (a .chip))) (across (a .g)), across-most (a .g)))))

@@ -5,6 +5,7 @@ use native.Mathlib.Omega.{arith}
 use denote.Ref.{now}
 use lib.ListN.{length}
 use Rattle.chip.specs.State.{named}
+use Rattle.chip.specs.View.{view}
 use Rattle.lists.specs.Put.{Added}
 use Rattle.text_registers.specs.Text.{paragraph, paragraphsTo}
 use Rattle.text_registers.proofs.Growing.{added-start, room-next, added-next}
@@ -13,7 +14,7 @@ use Rattle.text_registers.proofs.add_paragraphs.Statement.{statement}
 use Rattle.text_registers.proofs.add_paragraphs.Tie as tie
 
 abbrev Inv-loop : tie.InvT-loop
-Inv-loop chip out₀ from at₀ g₀ out at g = Added out₀ from (paragraphsTo (named chip) g) out at × (length out ≡ length out₀) × (g ≤ 9)
+Inv-loop chip out₀ from at₀ g₀ out at g = Added out₀ from (paragraphsTo (named (view chip)) g) out at × (length out ≡ length out₀) × (g ≤ 9)
 
 abbrev μ-loop : tie.MeasureT-loop
 μ-loop chip out₀ from at₀ g₀ out at g = 9 - g
@@ -28,13 +29,13 @@ add-paragraphs-spec =
     -- room for a paragraph
     (λ c κs. let l = c .before .before .loop in
     let a = c .before .before .before .before .args in
-    room-next (λ (j : ℕ). paragraph j (named (a .chip))) 897 (λ j. paragraph-most j (named (a .chip))) (now (a .out)) (a .from) (l .g) (omega arith) (l .out) (l .at) (l .inv .0) (l .inv .1))
+    room-next (λ (j : ℕ). paragraph j (named (view (a .chip)))) 897 (λ j. paragraph-most j (named (view (a .chip)))) (now (a .out)) (a .from) (l .g) (omega arith) (l .out) (l .at) (l .inv .0) (l .inv .1))
     (λ c. omega arith)
     (λ c. omega arith)
     -- a paragraph more
     (λ c. let l = c .before .before .before .before .before .loop in
     let a = c .before .before .before .before .before .before .before .args in
-    let (more, same) = added-next (λ (j : ℕ). paragraph j (named (a .chip))) 897 (λ j. paragraph-most j (named (a .chip))) (now (a .out)) (a .from) (l .g) (omega arith) (l .out) (l .at) (l .inv .0) (l .inv .1) (c .before .before .add-paragraph .ensures) in
+    let (more, same) = added-next (λ (j : ℕ). paragraph j (named (view (a .chip)))) 897 (λ j. paragraph-most j (named (view (a .chip)))) (now (a .out)) (a .from) (l .g) (omega arith) (l .out) (l .at) (l .inv .0) (l .inv .1) (c .before .before .add-paragraph .ensures) in
     (more, same, omega arith))
     (λ c. c .before .loop .inv .1)
     -- all of them

@@ -10,4 +10,4 @@ input-spec =
     (λ c κs. search needs)
     (λ c κs. search needs)
     (λ c κs. search needs)
-    (λ c. rw (c .with-chip .ensures, c .before .number .ensures, c .before .before .before .read .ensures .0)))
+    (λ c. rw (c .with-chip .ensures, c .before .number .ensures, ← c .before .before .before .read .ensures .0)))

@@ -10,4 +10,4 @@ output-spec =
     (λ c κs. search needs)
     (λ c κs. search needs)
     (λ c κs. search needs)
-    (λ c. rw (c .with-chip .ensures, c .before .number .ensures, c .before .before .before .write .ensures .0)))
+    (λ c. rw (c .with-chip .ensures, c .before .number .ensures, ← c .before .before .before .write .ensures .0)))

@@ -15,4 +15,4 @@ answer-spec =
     (λ c. let q = c .before .before .before .before .before .before .before .before .before .before .request-in .ensures in
     let a = c .before .before .before .before .before .before .before .before .act .ensures in
     let p = c .before .before .print .ensures in
-    (rw (p .next, a .0, q), (rw (← q) (a .1), rw (← q, ← a .0) (p .now)))))
+    (rw (← q, ← a .0, p .next), (rw (← q) (a .1), rw (← q, ← a .0) (p .now)))))
