@@ -14,4 +14,7 @@ tell-spec =
     (λ c κs. search needs)
     (λ c. search needs)
     (λ c. search needs)
-    (λ c. (rw (c .before .before .before .before .before .before .before .play .ensures .0, c .before .before .before .before .before .before .before .before .before .new .ensures) at (c .before .before .say .ensures .0), (rw (c .before .before .before .before .before .before .before .play .ensures .0, c .before .before .before .before .before .before .before .before .before .new .ensures) at (c .before .before .say .ensures .1), c .before .before .before .before .before .before .before .play .ensures .1 .1 .0))))
+    (λ c. let p = c .before .before .before .before .before .before .before .play .ensures in
+    let fresh = c .before .before .before .before .before .before .before .before .before .new .ensures in
+    let s = c .before .before .say .ensures in
+    (rw (← fresh, ← p .0) (s .0), (rw (← fresh, ← p .0) (s .1), p .1 .1 .0))))
