@@ -1,0 +1,72 @@
+-- The theorem of specs/Matching, and that the contracts of the code are what it speaks of.
+use Prim.Native.Nat.{ℕ}
+use mathlib.Core.Path.{_≡_, refl, sym, ap, _∙_}
+use mathlib.Core.List.{List, [], _∷_}
+use lib.ListN.{length}
+use Rattle.chip_registers.specs.Row.{rowSize}
+use Rattle.chip.specs.State.{Chip}
+use Rattle.chip.specs.Access.{Wrote, Seen, portWritten, portRead}
+use Rattle.chip.specs.Reset.{reset}
+use Rattle.chip.specs.View.{view, viewWrote, viewSeen, Shows}
+use Rattle.chip.specs.declared.Chip.{Chip as Kept}
+use Rattle.chip.specs.declared.access.Wrote.{Wrote as KeptWrote}
+use Rattle.chip.specs.declared.access.Seen.{Seen as KeptSeen}
+use Rattle.chip.proofs.ViewLaws.{view-decides, kept, reached-shown}
+use Rattle.chip_run.specs.Run.{Ran as RanTo, ran}
+use Rattle.chip_run.specs.View.{viewRan}
+use Rattle.chip_run.specs.declared.Ran.{Ran as KeptRan}
+use Rattle.chip_play.specs.Matching.{Act, Reset, Write, Read, Run, Play, Said, Nothing, Answered, Saw, Ran, Became, Gave, gives, gave, KeptGave, KeptAll, none, next, saidBy, leftBy, SmallerState}
+use Rattle.chip_play.specs.Played.{Performance, played}
+use Rattle.chip_play.specs.View.{viewPerformance}
+use Rattle.chip_play.specs.declared.Performance.{Performance as KeptPerformance}
+
+-- ---- what a contract says is what the theorem takes
+module _ (k : Kept) where
+  pub reset-gave : (first second : ℕ) (m : Kept) → length (m .row) ≡ rowSize → view m ≡ reset first second → KeptGave k (Reset first second) Nothing m
+  unfolding gave
+  reset-gave first second m size e = record { size = size; shown = ap (gives Nothing) e }
+
+  pub write-gave : (p v : ℕ) (r : KeptWrote) → length (r .chip .row) ≡ rowSize → viewWrote r ≡ portWritten (view k) p v
+      → KeptGave k (Write p v) (Answered (r .answer)) (r .chip)
+  unfolding gave
+  write-gave p v r size e = record { size = size; shown = ap (λ (w : Wrote). gives (Answered (w .answer)) (w .chip)) e }
+
+  pub read-gave : (p : ℕ) (r : KeptSeen) → length (r .chip .row) ≡ rowSize → viewSeen r ≡ portRead (view k) p
+      → KeptGave k (Read p) (Saw (r .answer) (r .value)) (r .chip)
+  unfolding gave
+  read-gave p r size e = record { size = size; shown = ap (λ (s : Seen). gives (Saw (s .answer) (s .value)) (s .chip)) e }
+
+  pub run-gave : (bytes : List ℕ) (limit : ℕ) (r : KeptRan) → length (r .chip .row) ≡ rowSize → viewRan r ≡ ran (view k) bytes limit
+      → KeptGave k (Run bytes limit) (Ran (r .count) (r .ending)) (r .chip)
+  unfolding gave
+  run-gave bytes limit r size e = record { size = size; shown = ap (λ (x : RanTo). gives (Ran (x .count) (x .ending)) (x .chip)) e }
+
+  pub play-gave : (file : List ℕ) (room : ℕ) (r : KeptPerformance) → length (r .chip .row) ≡ rowSize → viewPerformance r ≡ played (view k) file room
+      → KeptGave k (Play file room) (Became (r .outcome)) (r .chip)
+  unfolding gave
+  play-gave file room r size e = record { size = size; shown = ap (λ (p : Performance). gives (Became (p .outcome)) (p .chip)) e }
+
+-- ---- the theorem
+matched : (k : Kept) (c : Chip) → Shows k c → (a : Act) (s : Said) (m : Kept) → KeptGave k a s m → (s ≡ gave a c .said) × Shows m (gave a c .chip)
+matched k c shows a s m g =
+    let e : gives s (view m) ≡ gave a c = g .shown ∙ ap (gave a) (shows .chip) in
+    (ap (λ (x : Gave). x .said) e, record { size = g .size; chip = ap (λ (x : Gave). x .chip) e })
+
+all-matched : {k m : Kept} {l : List Act} {said : List Said} → KeptAll k l said m → (c : Chip) → Shows k c → (said ≡ saidBy l c) × Shows m (leftBy l c)
+unfolding saidBy leftBy
+all-matched none c shows = (refl, shows)
+all-matched (next {k} {m} {n} {a} {s} g more) c shows =
+    let (same, left) = matched k c shows a s m g in
+    let (others, end) = all-matched more (gave a c .chip) left in
+    (rw (same, others), end)
+
+pub smaller-state : SmallerState
+smaller-state = record {
+  act = matched;
+  acts = λ k c shows l said m all. all-matched all c shows;
+  decided = λ k a s t m n g h.
+      let e : gives s (view m) ≡ gives t (view n) = g .shown ∙ sym (h .shown) in
+      (ap (λ (x : Gave). x .said) e, view-decides m n (g .size) (h .size) (ap (λ (x : Gave). x .chip) e));
+  reached = λ first second p q c r. (kept c, reached-shown p q r);
+  one = λ k c d s t. sym (s .chip) ∙ t .chip;
+}
