@@ -21,6 +21,7 @@ mkdir -p -- "$prefix/include" "$prefix/lib/pkgconfig" || exit 1
 quoted=$(printf '%s\n' "$prefix" | sed -e 's/ /\\ /g' -e 's/[\\&|]/\\&/g') || exit 1
 cp -- "$header" "$prefix/include/chips69000.h" || exit 1
 cp -- "$archive" "$prefix/lib/libchips69000.a" || exit 1
-sed "s|@PREFIX@|$quoted|" "$root/chips69000.pc.in" >"$prefix/lib/pkgconfig/chips69000.pc" || exit 1
+version=$(sed -n 's/^#define CHIPS69000_VERSION \([0-9]*\)$/\1/p' "$header") || exit 1
+sed -e "s|@PREFIX@|$quoted|" -e "s|@VERSION@|$version|" "$root/chips69000.pc.in" >"$prefix/lib/pkgconfig/chips69000.pc" || exit 1
 chmod 644 "$prefix/include/chips69000.h" "$prefix/lib/libchips69000.a" "$prefix/lib/pkgconfig/chips69000.pc" || exit 1
 echo "installed below $prefix: include/chips69000.h, lib/libchips69000.a, lib/pkgconfig/chips69000.pc"

@@ -336,6 +336,25 @@ static void show(const char *path)
     if (fclose(to) != 0 || bad) fail("%s: cannot be written", path);
 }
 
+/* ---- A room is left, and come back to: the bytes of the state are saved beside the version that says what they mean. */
+
+static struct {
+    uint32_t version;
+    uint8_t state[CHIPS69000_STATE_SIZE];
+} room;
+
+static void leave_room(void)
+{
+    room.version = chips69000_state_version();
+    memcpy(room.state, state, sizeof state);
+}
+
+static void come_back(void)
+{
+    if (room.version != chips69000_state_version()) fail("the room was saved as version %u", (unsigned)room.version);
+    memcpy(state, room.state, sizeof state);
+}
+
 int main(int argc, char **argv)
 {
     const char *path = argc == 3 ? argv[2] : NULL;
@@ -345,6 +364,10 @@ int main(int argc, char **argv)
         fputs("usage: host SCRIPT [PICTURE]\n", stderr);
         return 2;
     }
+
+    /* The archive that is linked is the one that the header is of. */
+    if (chips69000_version() != CHIPS69000_VERSION || chips69000_state_version() != CHIPS69000_STATE_VERSION)
+        fail("the header and the library are of different versions");
 
     /* Bit 1 of the first pin byte is pin CFG1: were it 0, every port would be closed. Here all sixteen pins are 1, as on a board
      * with no resistor that pulls one low (databook, XR70 and XR71). */
@@ -365,6 +388,12 @@ int main(int argc, char **argv)
 
     draw_caption();
     switch_on();
+
+    /* The visitor goes through another room, whose chip starts from a reset, and is back. */
+    leave_room();
+    number = chips69000_reset(state, sizeof state, 0xFF, 0xFF);
+    if (number != CHIPS69000_DONE) fail("reset: %s (number %u)", meaning(number), number);
+    come_back();
     show(path);
     fprintf(stderr, "%s: %zu steps, %zu commands carried out; %s of %d by %d pixels to %s\n", argv[1], steps, commands,
             is_on() ? "a picture" : "no picture is on: a black one", WIDTH, HEIGHT, path ? path : "standard output");

@@ -21,8 +21,13 @@
 extern "C" {
 #endif
 
+/* The version of the library, which rises wherever a C program can see a change, and of the bytes of a state, which rises wherever
+ * the meaning of a byte changes. Keep the second beside bytes that are saved, and compare it when they come back. */
+#define CHIPS69000_VERSION 2
+#define CHIPS69000_STATE_VERSION 2
+
 /* The bytes of a state, and of the part's whole video memory. */
-#define CHIPS69000_STATE_SIZE 2574
+#define CHIPS69000_STATE_SIZE 1057
 #define CHIPS69000_MEMORY_SIZE 2097152
 
 /* What a call returns. */
@@ -41,6 +46,11 @@ extern "C" {
 #define CHIPS69000_NO_GROUP 254      /* no group of registers has the number */
 #define CHIPS69000_NO_STATE 255      /* the state's length is not CHIPS69000_STATE_SIZE */
 
+/* The versions of the library that is linked. */
+uint32_t chips69000_version(void);
+
+uint32_t chips69000_state_version(void);
+
 /* ---- The state. */
 
 /* A reset, with the two bytes that the configuration pins show. It sets every byte, so a new state needs no clearing. */
@@ -56,8 +66,8 @@ uint16_t chips69000_port_read(uint8_t *state, size_t state_length, uint16_t port
  * closed ports make no difference. */
 
 /* A register: the byte, plus 256 times the number. The byte is FFh where the number is not 0. Groups are 0 CR, 1 SR, 2 GR, 3 XR,
- * 4 FR, 5 MR, 6 MSR, 7 PALMASK and 8 AR. MSR and PALMASK are one register each, whatever the index; from a reset on an index
- * that is not listed reads 00h. */
+ * 4 FR, 5 MR, 6 MSR, 7 PALMASK and 8 AR. MSR and PALMASK are one register each, whatever the index; an index that is not listed
+ * reads 00h in every state. */
 uint16_t chips69000_register(const uint8_t *state, size_t state_length, uint8_t group, uint8_t index);
 
 /* The colour that an entry of the palette stores: bits 16 to 23 are red, 8 to 15 green and 0 to 7 blue, 24 to 31 the number. */

@@ -25,6 +25,9 @@ int main(void)
     uint8_t file[512] = {0};
     size_t value, count, whole = CHIPS69000_STATE_SIZE, most = CHIPS69000_MEMORY_SIZE;
 
+    EXPECT(CHIPS69000_VERSION, chips69000_version());
+    EXPECT(CHIPS69000_STATE_VERSION, chips69000_state_version());
+
     /* A state's length is this one, and no other beside it. */
     EXPECT(CHIPS69000_NO_STATE, chips69000_reset(state, whole - 1, 0xFF, 0xFF));
     EXPECT(CHIPS69000_NO_STATE, chips69000_reset(state, whole + 1, 0xFF, 0xFF));

@@ -1,5 +1,5 @@
--- What crosses the boundary beside the numbers of the crates below: the number of a reset, and the commands that were carried
--- out. Numbers are document 01's ("Numbers returned"), and `noState` for bytes that are no state. What has a longer value writes
+-- What crosses the boundary beside the numbers of the crates below: the versions, the number of a reset, and the commands that
+-- were carried out. Numbers are document 01's ("Numbers returned"), and `noState` for bytes that are no state. What has a longer value writes
 -- it to a place that the caller lends.
 use Prim.Native.Nat.{ℕ}
 use Rattle.chip_play.specs.declared.Outcome.{Outcome}
@@ -11,6 +11,15 @@ use Rattle.lent_run.specs.declared.LentRan.{LentRan}
 use Rattle.lent_run.specs.declared.LentRan.the-variants.{Ran, Length as RunLength}
 use Rattle.lent_play.specs.declared.LentPlayed.{LentPlayed}
 use Rattle.lent_play.specs.declared.LentPlayed.the-variants.{Met, Length as PlayLength}
+
+-- which library this is: one more wherever a C program can see a change
+abbrev pub libraryVersion : ℕ
+libraryVersion = 2
+
+-- what the bytes of a state mean: one more wherever the meaning of a byte changes. 1 had a table of 256 for each group; 2 has the
+-- row of the listed registers (document 02, P7)
+abbrev pub stateVersion : ℕ
+stateVersion = 2
 
 abbrev pub resetNumber : LentReset → ℕ
 resetNumber Done = 0

@@ -1,8 +1,8 @@
 // The controller as a C program links it: include/chips69000.h declares these functions. The state is bytes
 // that the program lends (crate `lent_chip`), memory, files and command bytes likewise, and each function returns
 // document 01's number, or 255 for bytes that are no state. Nothing is worked out here: every
-// function calls a proved one and says its answer in numbers. Here are the reset and the port accesses; then
-// registers and colours by name, video memory, scripts and the run.
+// function calls a proved one and says its answer in numbers. Here are the versions, the reset and the port accesses;
+// then registers and colours by name, video memory, scripts and the run.
 ghost use mathlib.Core.Path.{_≡_};
 ghost use Prim.Native.Nat.{_/_, _%_};
 ghost use Rattle.chip.specs.Access.{portWritten, portRead};
@@ -11,7 +11,7 @@ ghost use Rattle.lent_chip.specs.Layout.{view, spare};
 ghost use Rattle.lent_chip.specs.Accesses.{Left};
 ghost use Rattle.lent_chip.specs.Numbers.{writeTable, readTable};
 ghost use Rattle.lent_reset.specs.Fresh.{resetAnswer};
-ghost use Rattle.chips69000.specs.Numbers.{resetNumber};
+ghost use Rattle.chips69000.specs.Numbers.{libraryVersion, stateVersion, resetNumber};
 use lent_chip::access::read_word;
 use lent_chip::access::write_number;
 use lent_reset::LentReset;
@@ -21,6 +21,22 @@ pub mod begins;
 pub mod names;
 pub mod scripts;
 pub mod video;
+
+// The version of the library.
+#[no_mangle]
+pub extern "C" fn chips69000_version() -> u32
+    ensures { λ r. ⌜ r ≡ libraryVersion ⌝ }
+{
+    2
+}
+
+// The version of the bytes of a state: document 02, P7.
+#[no_mangle]
+pub extern "C" fn chips69000_state_version() -> u32
+    ensures { λ r. ⌜ r ≡ stateVersion ⌝ }
+{
+    2
+}
 
 // A reset that lends two pin bytes.
 #[no_mangle]

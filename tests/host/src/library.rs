@@ -3,6 +3,8 @@
 // tests/boundary compares these with the header and with the Rattle source: functions, types, order and names of parameters.
 mod raw {
     extern "C" {
+        pub fn chips69000_version() -> u32;
+        pub fn chips69000_state_version() -> u32;
         pub fn chips69000_reset(state: *mut u8, state_length: usize, first: u8, second: u8) -> u8;
         pub fn chips69000_port_write(state: *mut u8, state_length: usize, port: u16, value: u8) -> u8;
         pub fn chips69000_port_read(state: *mut u8, state_length: usize, port: u16) -> u16;
@@ -37,8 +39,13 @@ mod raw {
     }
 }
 
-pub const STATE: usize = 2574;
+pub const STATE: usize = 1057;
 pub const NO_STATE: u8 = 255;
+
+/// The versions of the library and of a state's bytes.
+pub fn versions() -> (u32, u32) {
+    unsafe { (raw::chips69000_version(), raw::chips69000_state_version()) }
+}
 
 pub fn reset(s: &mut [u8], first: u8, second: u8) -> u8 {
     unsafe { raw::chips69000_reset(s.as_mut_ptr(), s.len(), first, second) }

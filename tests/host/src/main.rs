@@ -80,12 +80,12 @@ fn start(r: &mut Random, rows: &Rows) -> Vec<u8> {
     let mut bytes = Vec::new();
     if r.one_in(2) {
         let open = if r.one_in(16) { 0 } else { 2 };
-        Chip::reset(rows, r.byte() & 0xFD | open, r.byte()).to_bytes(&mut bytes);
+        Chip::reset(rows, r.byte() & 0xFD | open, r.byte()).to_bytes(rows, &mut bytes);
         return bytes;
     }
     bytes = (0..STATE).map(|_| r.byte()).collect();
     if !r.one_in(16) {
-        bytes[768 + 0x70] |= 2;
+        bytes[rows.straps()] |= 2;
     }
     bytes
 }
@@ -97,7 +97,7 @@ fn resets(rows: &Rows, r: &mut Random) -> usize {
             let mut s: Vec<u8> = (0..STATE).map(|_| r.byte()).collect();
             let input = format!("reset {first:02X} {second:02X}");
             expect(&input, library::reset(&mut s, first, second), 0);
-            Chip::reset(rows, first, second).to_bytes(&mut expected);
+            Chip::reset(rows, first, second).to_bytes(rows, &mut expected);
             expect_bytes(&input, &s, &expected);
         }
     }
@@ -108,8 +108,8 @@ fn accesses(rows: &Rows, r: &mut Random, rounds: usize, each: usize) -> usize {
     let mut expected = Vec::new();
     for round in 0..rounds {
         let mut s = start(r, rows);
-        let mut c = Chip::from_bytes(&s);
-        c.to_bytes(&mut expected);
+        let mut c = Chip::from_bytes(rows, &s);
+        c.to_bytes(rows, &mut expected);
         expect_bytes("a state as a chip", &s, &expected);
         for k in 0..each {
             let (p, v) = (port(r), r.byte());
@@ -122,7 +122,7 @@ fn accesses(rows: &Rows, r: &mut Random, rounds: usize, each: usize) -> usize {
                 expect(&input, library::port_write(&mut s, p, v), c.write(rows, p, v));
             }
             if k % 8 == 0 || k + 1 == each {
-                c.to_bytes(&mut expected);
+                c.to_bytes(rows, &mut expected);
                 expect_bytes(&input, &s, &expected);
             }
         }
@@ -139,7 +139,7 @@ fn accesses(rows: &Rows, r: &mut Random, rounds: usize, each: usize) -> usize {
 fn names(rows: &Rows, r: &mut Random, rounds: usize) -> usize {
     for round in 0..rounds {
         let mut s = start(r, rows);
-        let mut c = Chip::from_bytes(&s);
+        let mut c = Chip::from_bytes(rows, &s);
         for _ in 0..r.below(200) {
             let (p, v) = (port(r), r.byte());
             if r.one_in(3) {
@@ -163,7 +163,7 @@ fn names(rows: &Rows, r: &mut Random, rounds: usize) -> usize {
         }
         expect_bytes(&format!("round {round}: after all names"), &s, &kept);
 
-        s[768 + 0x70] |= 2;
+        s[rows.straps()] |= 2;
         let (colour, eight) = (c.register(6, 0).1 & 1, c.register(3, 0x80).1 & 0x80 != 0);
         let pairs = [[0x3B4, 0x3D4][colour as usize], 0x3C4, 0x3CE, 0x3D6, 0x3D0, 0x3D2];
         for (group, pair) in (0..).zip(pairs) {
@@ -200,7 +200,7 @@ fn runs(rows: &Rows, r: &mut Random, rounds: usize) -> usize {
     let (mut expected, mut done) = (Vec::new(), 0);
     for round in 0..rounds {
         let mut s = start(r, rows);
-        let mut c = Chip::from_bytes(&s);
+        let mut c = Chip::from_bytes(rows, &s);
         let mut bytes: Vec<u8> = (0..r.below(60)).flat_map(|_| command(r)).collect();
         if r.one_in(10) {
             bytes.push(1);
@@ -209,11 +209,31 @@ fn runs(rows: &Rows, r: &mut Random, rounds: usize) -> usize {
         let input = format!("run {round}: {} commands, limit {limit}: {:02X?}", bytes.len() / 4, bytes);
         let got = library::run(&mut s, &bytes, limit);
         expect(&input, got, c.run(rows, &bytes, limit));
-        c.to_bytes(&mut expected);
+        c.to_bytes(rows, &mut expected);
         expect_bytes(&input, &s, &expected);
         done += got.1;
     }
     done
+}
+
+/// A room is left and come back to: the bytes saved with their version answer as the room did, whatever was done in between.
+fn saved(rows: &Rows, r: &mut Random, rounds: usize) -> usize {
+    for round in 0..rounds {
+        let mut s = start(r, rows);
+        let mut other = start(r, rows);
+        let kept = (library::versions().1, s.clone());
+        let ask = |s: &mut [u8], list: &[(u16, u8, bool)]| -> Vec<(u8, u8)> {
+            list.iter().map(|&(p, v, write)| if write { (library::port_write(s, p, v), 0) } else { library::port_read(s, p) }).collect()
+        };
+        let accesses: Vec<_> = (0..100).map(|_| (port(r), r.byte(), r.one_in(2))).collect();
+        let first = ask(&mut s, &accesses);
+        ask(&mut other, &accesses);
+        expect(&format!("round {round}: the version"), kept.0, library::versions().1);
+        let mut again = kept.1;
+        expect(&format!("round {round}: asked again"), ask(&mut again, &accesses), first);
+        expect_bytes(&format!("round {round}: left again"), &again, &s);
+    }
+    rounds
 }
 
 /// Bytes that are no state: refused, and none changes.
@@ -443,7 +463,7 @@ fn judged(rows: &Rows, r: &mut Random) -> usize {
             expect(&format!("{input}: translated"), translated.0, if *number == 0 && room == 0 { 9 } else { *number });
             expect_bytes(&format!("{input}: translated"), &out, &kept);
             let mut s = start(r, rows);
-            s[768 + 0x70] |= 2;
+            s[rows.straps()] |= 2;
             let got = played(rows, &format!("{input}: played"), &mut s, &file, &mut out);
             expect(&format!("{input}: played"), got, translated.0);
         }
@@ -525,7 +545,7 @@ fn played(rows: &Rows, input: &str, s: &mut [u8], file: &[u8], commands: &mut [u
     let mut expected = Vec::new();
     let mut kept = commands.to_vec();
     let mut part = s.to_vec();
-    let before = Chip::from_bytes(s);
+    let before = Chip::from_bytes(rows, s);
     let index = library::port_read(s, 0x3C0);
     let got = library::play(s, file, commands);
 
@@ -536,12 +556,12 @@ fn played(rows: &Rows, input: &str, s: &mut [u8], file: &[u8], commands: &mut [u
         (number, value) => (number, 0, value),
     };
     expect(input, got, want);
-    after.to_bytes(&mut expected);
+    after.to_bytes(rows, &mut expected);
     expect_bytes(input, s, &expected);
     expect_bytes(&format!("{input}, commands"), commands, &kept);
 
     if translated.0 != 0 || !before.is_open() {
-        expect(&format!("{input}, refused"), Chip::from_bytes(s) == before, true);
+        expect(&format!("{input}, refused"), Chip::from_bytes(rows, s) == before, true);
         return got.0;
     }
     let steps = script::steps(rows, file).unwrap();
@@ -550,10 +570,10 @@ fn played(rows: &Rows, input: &str, s: &mut [u8], file: &[u8], commands: &mut [u
     let mut said = before;
     steps[..some].iter().for_each(|step| said.apply(rows, step));
     expect(&format!("{input}, {some} steps"), library::run(&mut part, &commands[..4 * translated.1], limit), (0, limit, 0));
-    expect_bytes(&format!("{input}, {some} steps by name"), &Chip::from_bytes(&part).named(), &said.named());
+    expect_bytes(&format!("{input}, {some} steps by name"), &Chip::from_bytes(rows, &part).named(), &said.named());
     steps[some..].iter().for_each(|step| said.apply(rows, step));
     expect(&format!("{input}, carried out"), got, (0, translated.1, 0));
-    expect_bytes(&format!("{input}, by name"), &Chip::from_bytes(s).named(), &said.named());
+    expect_bytes(&format!("{input}, by name"), &Chip::from_bytes(rows, s).named(), &said.named());
     expect(&format!("{input}, bit 5 of 3C0h"), library::port_read(s, 0x3C0).1 & 0x20, index.1 & 0x20);
     0
 }
@@ -590,6 +610,8 @@ fn main() {
     println!("{} port accesses agree", accesses(&rows, r, 4000, 1000));
     println!("{} registers and colours by name agree", names(&rows, r, 200));
     println!("{} commands of 100000 runs agree", runs(&rows, r, 100_000));
+    expect("the versions", library::versions(), (2, 2));
+    println!("{} rooms come back as they were saved", saved(&rows, r, 500));
     println!("{} lengths that are no state's are refused", lengths(r));
     println!("{} bytes of memory agree", memory(r, 10_000));
     println!("{} transfers of 100000 are done and agree, the others are refused alike", transfers(r, 100_000));

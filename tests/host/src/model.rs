@@ -7,11 +7,12 @@ const READING: &str = include_str!("../../registers.csv");
 const GROUPS: [&str; 9] = ["CR", "SR", "GR", "XR", "FR", "MR", "MSR", "PALMASK", "AR"];
 
 /// Writable bits and reset byte of a register, by group number and index; and of each group the indexes whose register has a writable
-/// bit, and those that are listed and have none.
+/// bit, and those that are listed and have none; and the row of all that have an index, in the order in which a state has them.
 pub struct Rows {
     bytes: HashMap<(usize, u8), (u8, u8)>,
     live: Vec<Vec<u8>>,
     read_only: Vec<Vec<u8>>,
+    row: Vec<(usize, u8)>,
 }
 
 impl Rows {
@@ -31,7 +32,8 @@ impl Rows {
         let listed = |g: usize, live: bool| (0..=255).filter(|&i| rows.get(&(g, i)).is_some_and(|r| (r.0 != 0) == live)).collect();
         let live = (0..=AR).map(|g| listed(g, true)).collect();
         let read_only = (0..=AR).map(|g| listed(g, false)).collect();
-        Rows { bytes: rows, live, read_only }
+        let row = [0, 1, 2, 3, 4, 5, AR].into_iter().flat_map(|g| (0..=255).map(move |i| (g, i))).filter(|name| rows.contains_key(name)).collect();
+        Rows { bytes: rows, live, read_only, row }
     }
 
     pub fn writable(&self, g: usize, i: u8) -> u8 {
@@ -40,6 +42,11 @@ impl Rows {
 
     pub fn reset(&self, g: usize, i: u8) -> u8 {
         self.bytes.get(&(g, i)).map_or(0, |r| r.1)
+    }
+
+    /// Where XR70 stands in a state, whose bit 1 opens the ports.
+    pub fn straps(&self) -> usize {
+        14 + 768 + self.row.iter().position(|name| *name == (XR, 0x70)).unwrap()
     }
 
     pub fn live(&self, g: u8) -> &[u8] {
@@ -125,31 +132,32 @@ impl Chip {
         }
     }
 
-    /// The chip that bytes hold: the tables, the palette, MSR and PALMASK, the indexes, the palette's loading state, and last the flags:
-    /// bit 0 is that of the palette's loading state, bit 1 the turn, bit 2 the picture.
-    pub fn from_bytes(b: &[u8]) -> Chip {
+    /// The chip that bytes hold (document 02, P7): MSR and PALMASK, the indexes, the palette's loading state and the flags, of which
+    /// bit 0 is that of the palette's loading state, bit 1 the turn, bit 2 the picture; then the palette, and the row of the listed
+    /// registers. The tables have 00h where an index is not listed.
+    pub fn from_bytes(rows: &Rows, b: &[u8]) -> Chip {
         let mut at = b.iter().copied();
         let mut next = || at.next().unwrap();
-        let mut tables = [[0; 256]; 7];
-        tables.iter_mut().flatten().for_each(|x| *x = next());
-        let mut palette = [[0; 3]; 256];
-        palette.iter_mut().flatten().for_each(|x| *x = next());
         let (msr, palmask) = (next(), next());
         let mut indexes = [0; 7];
         indexes.iter_mut().for_each(|x| *x = next());
         let (index, position, held, flags) = (next(), next(), [next(), next()], next());
         let (reading, turn, picture) = (flags & 1 != 0, flags & 2 != 0, flags & 4 != 0);
+        let mut palette = [[0; 3]; 256];
+        palette.iter_mut().flatten().for_each(|x| *x = next());
+        let mut tables = [[0; 256]; 7];
+        rows.row.iter().for_each(|&(g, i)| tables[table(g)][i as usize] = next());
         Chip { tables, indexes, msr, palmask, palette, index, position, held, reading, turn, picture, spare: flags >> 3 }
     }
 
-    pub fn to_bytes(&self, out: &mut Vec<u8>) {
+    pub fn to_bytes(&self, rows: &Rows, out: &mut Vec<u8>) {
         out.clear();
-        out.extend(self.tables.iter().flatten());
-        out.extend(self.palette.iter().flatten());
         out.extend([self.msr, self.palmask]);
         out.extend(self.indexes);
         let flags = self.spare << 3 | u8::from(self.picture) << 2 | u8::from(self.turn) << 1 | u8::from(self.reading);
         out.extend([self.index, self.position, self.held[0], self.held[1], flags]);
+        out.extend(self.palette.iter().flatten());
+        out.extend(rows.row.iter().map(|&(g, i)| self.tables[table(g)][i as usize]));
     }
 
     fn leads(&self, port: u16, write: bool) -> Option<Port> {
