@@ -13,7 +13,8 @@ use Rattle.lists.specs.Bits.{bit, isSet}
 use Rattle.lists.specs.Numbers.{returned}
 use Rattle.lists.specs.Put.{put}
 use Rattle.lists.specs.Tab.{Bytes}
-use Rattle.chip_registers.specs.Groups.{groupAt, rowOf, writableOf}
+use Rattle.chip_registers.specs.Groups.{groupAt, isIndexed, rowOf, writableOf}
+use Rattle.chip_registers.specs.Row.{At, Nowhere, slotOf, rowSize}
 use Rattle.chip_registers.specs.Indexes.{indexKept, fits}
 use Rattle.chip_registers.specs.WriteRule.{written}
 use Rattle.chip_registers.specs.declared.Group.{Group}
@@ -21,6 +22,8 @@ use Rattle.chip_registers.specs.declared.Group.the-variants.{Ar, Palmask}
 use Rattle.chip_registers.specs.declared.Row.the-variants.{Unlisted}
 use Rattle.chip_registers.proofs.PrintedRows as printed-rows
 use Rattle.chip_registers.proofs.PrintedRows.{asPrinted, printed}
+use Rattle.chip_registers.proofs.RowLaws as row-laws
+use Rattle.chip_registers.proofs.RowLaws.{groupOn, indexOn}
 use Rattle.chip_registers.proofs.Stretches.{has}
 use Rattle.chip_registers.proofs.WriteLaws as write-laws
 use Rattle.chip_ports.specs.Ports.{target}
@@ -33,6 +36,8 @@ use Rattle.chip.specs.Palette.{entry, rgb, shown}
 use Rattle.chip.specs.Access.{answerNumber, accessTable, portWritten, portRead, wrote}
 use Rattle.chip.specs.Reset.{resetByte}
 use Rattle.chip.specs.Reach.{Reach}
+use Rattle.chip.specs.View.{view as shownBy, Shows}
+use Rattle.chip.specs.declared.Chip.{Chip as Kept}
 use Rattle.chip.specs.declared.access.Answer.the-variants.{Done}
 use Rattle.chip.proofs.NumberLaws as number-laws
 use Rattle.chip.proofs.NameLaws as name-laws
@@ -42,6 +47,7 @@ use Rattle.chip.proofs.ResetLaws as reset-laws
 use Rattle.chip.proofs.ShownLaws as shown-laws
 use Rattle.chip.proofs.IndexLaws as index-laws
 use Rattle.chip.proofs.AttributeLaws as attribute-laws
+use Rattle.chip.proofs.ViewLaws as view-laws
 use Rattle.memory.specs.Memory.{lengthAllowed, byteNumber}
 use Rattle.memory.proofs.Laws as memory-laws
 use Rattle.blit_raster.specs.Raster.{raster}
@@ -79,12 +85,14 @@ use Rattle.chip_run.specs.declared.Ending.{Ending}
 use Rattle.chip_run.proofs.RunLaws as run-laws
 use Rattle.chip_run.proofs.RunNumbers as run-number-laws
 use Rattle.chip_play.specs.ByName.{applied, appliedAll}
+use Rattle.chip_play.specs.Matching.{Act, Said, gave, KeptGave}
+use Rattle.chip_play.proofs.Matching as matching
 use Rattle.chip_play.proofs.Demand3 as scripts
 use Rattle.chip_play.proofs.Scripts as script-laws
 use Rattle.chip_play.proofs.Scripts.{AllPass}
 use Rattle.chip_play.proofs.Idle as idle-laws
 use Rattle.chip.proofs.NameLaws.{Bytes as NamedBytes}
-use Rattle.lent_chip.specs.Layout.{whole, view, spare}
+use Rattle.lent_chip.specs.Layout.{whole, laid, view, spare}
 use Rattle.lent_chip.specs.Accesses.{Left}
 use Rattle.lent_chip.proofs.Whole as whole-laws
 use Rattle.lent_run.specs.Run.{runAnswer}
@@ -172,15 +180,18 @@ received-bits = name-laws.received-bit
 pub received-elsewhere : (g h : Group) (n : Named) (i v k : ℕ) → Different g i h k → register h (received g n i v) k ≡ register h n k
 received-elsewhere = name-laws.received-other
 
--- In every state that accesses reach from a reset, bits that are not writable keep the reset's value, and an unlisted index
--- reads 00h.
+-- In every state that accesses reach from a reset, bits that are not writable keep the reset's value; in every state that is
+-- kept, reached or not, an unlisted index reads 00h, and so it does on lent bytes.
 pub bits-fixed : {first second : ℕ} {c : Chip} → Reach first second c → (g : Group) (i k : ℕ) → i < 0x100 → k < 8 → bit k (writableOf g i) ≡ 0
     → bit k (register g (named c) i) ≡ bit k (resetByte first second g i)
 bits-fixed = reach-laws.fixed-bits
 
-pub unlisted-00 : {first second : ℕ} {c : Chip} → first < 0x100 → second < 0x100 → Reach first second c → (g : Group) (i : ℕ) → i < 0x100
-    → rowOf g i ≡ Unlisted → register g (named c) i ≡ 0x00
-unlisted-00 = reach-laws.unlisted-reads-00
+pub unlisted-00 : (k : Kept) (g : Group) (i : ℕ) → i < 0x100 → rowOf g i ≡ Unlisted → register g (named (shownBy k)) i ≡ 0x00
+unlisted-00 k g i h none = view-laws.unlisted-shows-00 g k i h none
+
+pub unlisted-00-on-lent-bytes : (l : List ℕ) (g : Group) (i : ℕ) → i < 0x100 → rowOf g i ≡ Unlisted → register g (named (view l)) i ≡ 0x00
+unfolding view
+unlisted-00-on-lent-bytes l g i h none = view-laws.unlisted-shows-00 g (laid l) i h none
 
 -- Document 01's rows, and its table of ports with document 02's, P1.
 pub rows-printed : asPrinted printed ≡ true
@@ -286,3 +297,26 @@ P5-folds-at-the-port = index-laws.index-folds
 
 pub P5-misfit-is-7 : (g i : ℕ) → fits (groupAt g) i ≡ false → ((v : ℕ) → judged (Set g i v) ≡ Refused Unallowed) × ((v m : ℕ) → judged (Field g i v m) ≡ Refused Unallowed)
 P5-misfit-is-7 g i misfit = (lawful.misfit-set g i misfit, lawful.misfit-field g i misfit)
+
+-- P7. A kept state, the code's struct with its row of 275 bytes, matches the state that it shows. Whatever is asked, reset, port
+-- write and read, run and script: from matching states the same is said, and matching states are left; what the contract says
+-- decides what is kept; and every state that accesses reach in the arrangement of tables is matched.
+pub P7-matching : (k : Kept) (c : Chip) → Shows k c → (a : Act) (s : Said) (m : Kept) → KeptGave k a s m → (s ≡ gave a c .said) × Shows m (gave a c .chip)
+P7-matching = matching.smaller-state .act
+
+pub P7-decided : (k : Kept) (a : Act) (s t : Said) (m n : Kept) → KeptGave k a s m → KeptGave k a t n → (s ≡ t) × (m ≡ n)
+P7-decided = matching.smaller-state .decided
+
+pub P7-reached : (first second : ℕ) → first < 0x100 → second < 0x100 → (c : Chip) → Reach first second c → (k : Kept) × Shows k c
+P7-reached = matching.smaller-state .reached
+
+-- Two registers never stand at one place, every place of the row has its register, and there is a place exactly where an index is
+-- listed.
+pub P7-one-place : (g h : Group) (i j k : ℕ) → i < 0x100 → j < 0x100 → slotOf g i ≡ At k → slotOf h j ≡ At k → (g ≡ h) × (i ≡ j)
+P7-one-place = row-laws.slot-one
+
+pub P7-no-place-left : (k : ℕ) → k < rowSize → slotOf (groupOn k) (indexOn k) ≡ At k
+P7-no-place-left = row-laws.each-slot
+
+pub P7-listed-only : (g : Group) (i : ℕ) → i < 0x100 → isIndexed g ≡ true → (slotOf g i ≡ Nowhere) ↔ (rowOf g i ≡ Unlisted)
+P7-listed-only g i h x = (row-laws.nowhere-unlisted g i h x, row-laws.unlisted-nowhere g i h)
