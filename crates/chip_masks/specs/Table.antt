@@ -1,20 +1,19 @@
 -- What a line is of the table of writable bits, and of the table of places in the row: the bytes of eight registers of a group,
 -- as crate `chip_registers` defines them, in one number.
-use Prim.Native.Nat.{ℕ, zero, suc, _+_, _*_, _-_, _/_, _%_}
+use Prim.Native.Nat.{ℕ, zero, suc, _+_, _*_, _-_}
 use mathlib.Core.Bool.{cond}
-use Rattle.chip_registers.specs.Groups.{tableAt, isIndexed}
+use Rattle.chip_registers.specs.Groups.{isIndexed}
 use Rattle.chip_registers.specs.Row.{Slot, At, Nowhere, before, slotOf}
 use Rattle.chip_registers.specs.declared.Group.{Group}
-use Rattle.chip_registers.specs.declared.Group.the-variants.{Cr, Sr, Gr, Xr, Fr, Mr, Msr, Palmask, Ar}
 
 -- n bytes as one number, the first at the left
 unfoldable pub packed : (ℕ → ℕ) → ℕ → ℕ
 packed f zero = 0
 packed f (suc n) = packed f n * 256 + f n
 
--- line k of a table of bytes: 32 lines a group, eight registers a line
-unfoldable pub lineOf : (Group → ℕ → ℕ) → ℕ → ℕ
-lineOf f k = packed (λ j. f (tableAt (k / 32)) (8 * (k % 32) + j)) 8
+-- line k of a group's table of bytes, eight registers a line
+unfoldable pub lineOf : (Group → ℕ → ℕ) → Group → ℕ → ℕ
+lineOf f g k = packed (λ j. f g (8 * k + j)) 8
 
 -- a place as a byte: 128 plus how far it is from the group's first, and 0 for none
 abbrev pub standing : ℕ → Slot → ℕ
@@ -24,15 +23,3 @@ standing first Nowhere = 0
 -- where a register stands, as a byte; MSR and PALMASK are the first and only register of their group
 unfoldable pub standingOf : Group → ℕ → ℕ
 standingOf g i = cond (isIndexed g) (standing (before g) (slotOf g i)) 128
-
--- which 32 lines are a group's: law `table-numbered`. MSR has none
-abbrev pub tableOf : Group → ℕ
-tableOf Cr = 0
-tableOf Sr = 1
-tableOf Gr = 2
-tableOf Xr = 3
-tableOf Fr = 4
-tableOf Mr = 5
-tableOf Msr = 8
-tableOf Palmask = 7
-tableOf Ar = 6

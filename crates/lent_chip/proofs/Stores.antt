@@ -1,158 +1,86 @@
--- A store of one byte, as a change of the chip. The regions do not overlap, so a store changes one cell (`cell-set`); with the
--- region a literal every other part of the chip computes back to what it was. Then the same for a register, for the three bytes
--- of an entry, and for a single byte.
-use Prim.Native.Nat.{ℕ, suc, _+_, _*_, _/_, _%_, _<_, _≤_}
-use mathlib.Core.Path.{_≡_, refl, ap, fun-ext, _∙_}
+-- A store of one byte, as a change of what bytes keep, and so of the chip that they hold: a single byte, a place of the row, or the
+-- three bytes of an entry. The regions follow one another, so each store leaves the other two as they were. Then where a
+-- register's byte is and what is read there, by name; the argument over the groups is crate `chip`'s (ViewLaws).
+use Prim.Native.Nat.{ℕ, _+_, _*_, _/_, _%_, _-_, _<_, _≤_}
+use mathlib.Core.Path.{_≡_, refl, ap, _∙_, sym}
 use mathlib.Core.Bool.{Bool, true, false, cond}
 use mathlib.Core.List.{List}
-use lib.Dec.{eqb, ltb}
+use lib.Dec.{eqb}
 use lib.ListN.{getD, set, length, length-set}
 use lib.Seq.{getD-set-same, getD-set-other}
-use native.Mathlib.Nat.{add-zero}
 use native.Mathlib.Omega.{arith}
-use borrow.Author.Tests.{ltb-true, ltb-false, eqb-true, eqb-false, lt-ltb, eq-eqb, ne-eqb}
+use borrow.Author.Tests.{eqb-true, eqb-false}
 use Rattle.lists.specs.Tab.{tab}
-use Rattle.lists.proofs.Tab.{tab-at, tab-set}
+use Rattle.lists.proofs.Tab.{tab-length, tab-at, tab-same, tab-set}
+use Rattle.chip_registers.specs.Groups.{isIndexed}
+use Rattle.chip_registers.specs.Row.{Slot, At, Nowhere, before, slotOf, rowSize}
 use Rattle.chip_registers.specs.declared.Group.{Group}
 use Rattle.chip_registers.specs.declared.Group.the-variants.{Cr, Sr, Gr, Xr, Fr, Mr, Msr, Palmask, Ar}
+use Rattle.chip_registers.proofs.RowLaws.{stands}
+use Rattle.chip_masks.specs.Table.{standing, standingOf}
 use Rattle.chip.specs.State.{named, join, withNamed}
-use Rattle.chip.specs.Names.{register, replaced}
+use Rattle.chip.specs.Names.{register}
 use Rattle.chip.specs.Palette.{rgb, entry, withPalette}
+use Rattle.chip.specs.View.{Kept, inRow, view as shownBy, withRow}
 use Rattle.chip.specs.declared.Chip.{Chip}
 use Rattle.chip.specs.declared.Rgb.{Rgb}
-use Rattle.lent_chip.specs.Layout.{start, size, whole, cell, chipOf, view, placeOf}
+use Rattle.chip.proofs.ViewLaws.{shown-at}
+use Rattle.lent_chip.specs.Layout.{MSR, PALMASK, CR-INDEX, SR-INDEX, GR-INDEX, XR-INDEX, FR-INDEX, MR-INDEX, AR-INDEX, INDEX, POSITION, RED, GREEN, FLAGS, PALETTE, ROW, whole, colourIn, laid, view, baseOf, placeOf}
 
--- the cells with one replaced
-abbrev pub update : (ℕ → ℕ → ℕ) → ℕ → ℕ → ℕ → ℕ → ℕ → ℕ
-update s q i v r k = cond (eqb r q) (cond (eqb k i) v (s r k)) (s r k)
+-- the regions follow one another and fill a state
+pub regions-fill : (FLAGS + 1 ≡ PALETTE) × (PALETTE + 3 * 256 ≡ ROW) × (ROW + rowSize ≡ whole)
+regions-fill = (refl, refl, refl)
 
--- the regions fill a state
-pub regions-fill : start 9 ≡ whole
-regions-fill = refl
+-- a byte after a store
+after : (l : List ℕ) (k v j : ℕ) → k < length l → getD (set l k v) j 0 ≡ cond (eqb j k) v (getD l j 0)
+after l k v j w = go (eqb j k) refl
+  where
+    go : (z : Bool) → eqb j k ≡ z → getD (set l k v) j 0 ≡ cond z v (getD l j 0)
+    go true e = rw (eqb-true j k e) (getD-set-same l k v 0 w)
+    go false e = getD-set-other l k j v 0 (eqb-false j k e)
 
--- the regions do not overlap
-start-grows : (q r : ℕ) → q < r → start q + size q ≤ start r
-start-grows q (suc r) h = go (ltb q r) refl (start-grows q r) where
-  go : (z : Bool) → ltb q r ≡ z → (q < r → start q + size q ≤ start r) → start q + size q ≤ start (suc r)
-  go true e f = let g : start q + size q ≤ start r = f (ltb-true q r e) in omega arith
-  go false e f = let s : q ≡ r = omega (arith, ltb-false q r e) in rw s (omega arith)
+-- the row and the palette, where the store is elsewhere
+row-stays : (l : List ℕ) (k v : ℕ) → k < ROW → tab (λ j. getD (set l k v) (ROW + j) 0) rowSize ≡ tab (λ j. getD l (ROW + j) 0) rowSize
+row-stays l k v h = tab-same (λ j. getD (set l k v) (ROW + j) 0) (λ j. getD l (ROW + j) 0) rowSize (λ j w. getD-set-other l k (ROW + j) v 0 (λ e. omega arith))
 
-apart : (q i r k : ℕ) → i < size q → k < size r → start r + k ≡ start q + i → r ≡ q
-apart q i r k h w e = go (ltb q r) (ltb r q) refl refl where
-  go : (a b : Bool) → ltb q r ≡ a → ltb r q ≡ b → r ≡ q
-  go true b x y = omega (arith, start-grows q r (ltb-true q r x))
-  go false true x y = omega (arith, start-grows r q (ltb-true r q y))
-  go false false x y = omega (arith, ltb-false q r x, ltb-false r q y)
+palette-stays : (l : List ℕ) (k v : ℕ) → ((j : ℕ) → j < 768 → PALETTE + j ≡ k → ⊥) → tab (colourIn (set l k v)) 256 ≡ tab (colourIn l) 256
+palette-stays l k v n =
+    tab-same (colourIn (set l k v)) (colourIn l) 256
+    (λ e w. rw (
+      getD-set-other l k (PALETTE + 3 * e) v 0 (n (3 * e) (omega arith)),
+      getD-set-other l k (PALETTE + (3 * e + 1)) v 0 (n (3 * e + 1) (omega arith)),
+      getD-set-other l k (PALETTE + (3 * e + 2)) v 0 (n (3 * e + 2) (omega arith)),
+    ))
 
-module _ (l : List ℕ) (q i v : ℕ) (h : i < size q) (w : start q + i < length l) where
-  elsewhere : (r k : ℕ) → (r ≡ q → k ≡ i → ⊥) → cell (set l (start q + i) v) r k ≡ cell l r k
-  unfolding cell
-  elsewhere r k n = go (ltb k (size r)) refl where
-    go : (z : Bool) → ltb k (size r) ≡ z → cond z (getD (set l (start q + i) v) (start r + k) 0) 0 ≡ cond z (getD l (start r + k) 0) 0
-    go true e = getD-set-other l (start q + i) (start r + k) v 0 (λ s. let u : r ≡ q = apart q i r k h (ltb-true k (size r) e) s in let s′ : start q + k ≡ start q + i = rw u at s in n u (omega arith))
-    go false e = refl
+-- ---- a single byte: MSR, PALMASK, the indexes, the palette's index, position and held bytes, and the flags
 
-  here : cell (set l (start q + i) v) q i ≡ v
-  unfolding cell
-  here = rw (lt-ltb i (size q) h) (getD-set-same l (start q + i) v 0 w)
+-- what is kept, and the chip, with that byte replaced
+abbrev singly : Kept → ℕ → ℕ → Kept
+singly f k v = record {
+  row = f .row;
+  msr = cond (eqb MSR k) v (f .msr);
+  palmask = cond (eqb PALMASK k) v (f .palmask);
+  picture = cond (eqb FLAGS k) (eqb (v / 4 % 2) 1) (f .picture);
+  palette = f .palette;
+  indexes = record {
+    cr = cond (eqb CR-INDEX k) v (f .indexes .cr);
+    sr = cond (eqb SR-INDEX k) v (f .indexes .sr);
+    gr = cond (eqb GR-INDEX k) v (f .indexes .gr);
+    xr = cond (eqb XR-INDEX k) v (f .indexes .xr);
+    fr = cond (eqb FR-INDEX k) v (f .indexes .fr);
+    mr = cond (eqb MR-INDEX k) v (f .indexes .mr);
+    ar = cond (eqb AR-INDEX k) v (f .indexes .ar);
+    turn = cond (eqb FLAGS k) (eqb (v / 2 % 2) 1) (f .indexes .turn);
+  };
+  loading = record {
+    index = cond (eqb INDEX k) v (f .loading .index);
+    position = cond (eqb POSITION k) v (f .loading .position);
+    red = cond (eqb RED k) v (f .loading .red);
+    green = cond (eqb GREEN k) v (f .loading .green);
+    reading = cond (eqb FLAGS k) (eqb (v % 2) 1) (f .loading .reading);
+  };
+}
 
-  pub cell-set : cell (set l (start q + i) v) ≡ update (cell l) q i v
-  cell-set = fun-ext (λ r. fun-ext (λ k. go r k (eqb r q) (eqb k i) refl refl)) where
-    go : (r k : ℕ) (a b : Bool) → eqb r q ≡ a → eqb k i ≡ b → cell (set l (start q + i) v) r k ≡ cond a (cond b v (cell l r k)) (cell l r k)
-    go r k true true x y = rw (eqb-true r q x, eqb-true k i y) here
-    go r k true false x y = elsewhere r k (λ _. eqb-false k i y)
-    go r k false b x y = elsewhere r k (λ e _. eqb-false r q x e)
-
-pub table-set : (s : ℕ → ℕ) (n i v : ℕ) → i < n → tab (λ k. cond (eqb k i) v (s k)) n ≡ set (tab s n) i v
-table-set s n i v h = tab-set s (λ k. cond (eqb k i) v (s k)) n i h (λ k w e. rw (ne-eqb k i e)) ∙ rw (eq-eqb i i refl)
-
--- one byte stored in region q
-pub view-set : (l : List ℕ) (q i v : ℕ) → i < size q → start q + i < length l → view (set l (start q + i) v) ≡ chipOf (update (cell l) q i v)
-unfolding view
-view-set l q i v h w = ap chipOf (cell-set l q i v h w)
-
--- a register's byte stored and read
-pub set-reg : (g : Group) (l : List ℕ) (i v : ℕ) → length l ≡ whole → i < 256 →
-    view (set l (placeOf g i) v) ≡ withNamed (view l) (replaced g (named (view l)) i v)
-unfolding view placeOf
-set-reg Cr l i v n h = view-set l 0 i v h (omega arith) ∙ rw (table-set (cell l 0) 256 i v h)
-set-reg Sr l i v n h = view-set l 1 i v h (omega arith) ∙ rw (table-set (cell l 1) 256 i v h)
-set-reg Gr l i v n h = view-set l 2 i v h (omega arith) ∙ rw (table-set (cell l 2) 256 i v h)
-set-reg Xr l i v n h = view-set l 3 i v h (omega arith) ∙ rw (table-set (cell l 3) 256 i v h)
-set-reg Fr l i v n h = view-set l 4 i v h (omega arith) ∙ rw (table-set (cell l 4) 256 i v h)
-set-reg Mr l i v n h = view-set l 5 i v h (omega arith) ∙ rw (table-set (cell l 5) 256 i v h)
-set-reg Msr l i v n h = view-set l 8 0 v (omega arith) (omega arith)
-set-reg Palmask l i v n h = view-set l 8 1 v (omega arith) (omega arith)
-set-reg Ar l i v n h = view-set l 6 i v h (omega arith) ∙ rw (table-set (cell l 6) 256 i v h)
-
-pub get-table : (l : List ℕ) (q i : ℕ) → i < size q → getD (tab (cell l q) (size q)) i 0 ≡ getD l (start q + i) 0
-unfolding cell
-get-table l q i h = tab-at (cell l q) (size q) i 0 h ∙ rw (lt-ltb i (size q) h)
-
-pub get-reg : (g : Group) (l : List ℕ) (i : ℕ) → i < 256 → register g (named (view l)) i ≡ getD l (placeOf g i) 0
-unfolding view placeOf cell
-get-reg Cr l i h = get-table l 0 i h
-get-reg Sr l i h = get-table l 1 i h
-get-reg Gr l i h = get-table l 2 i h
-get-reg Xr l i h = get-table l 3 i h
-get-reg Fr l i h = get-table l 4 i h
-get-reg Mr l i h = get-table l 5 i h
-get-reg Msr l i h = refl
-get-reg Palmask l i h = refl
-get-reg Ar l i h = get-table l 6 i h
-
--- a colour's three bytes stored
-abbrev three : (ℕ → ℕ) → ℕ → ℕ → ℕ → ℕ → ℕ → ℕ
-three s e r g b j = cond (eqb j (3 * e + 2)) b (cond (eqb j (3 * e + 1)) g (cond (eqb j (3 * e)) r (s j)))
-
-abbrev colourAt : (ℕ → ℕ) → ℕ → Rgb
-colourAt s k = rgb (s (3 * k)) (s (3 * k + 1)) (s (3 * k + 2))
-
-beside : (s : ℕ → ℕ) (e r g b k d : ℕ) → (k ≡ e → ⊥) → d < 3 → three s e r g b (3 * k + d) ≡ s (3 * k + d)
-beside s e r g b k d n h =
-    rw (ne-eqb (3 * k + d) (3 * e + 2) (λ t. n (omega arith)), ne-eqb (3 * k + d) (3 * e + 1) (λ t. n (omega arith)), ne-eqb (3 * k + d) (3 * e) (λ t. n (omega arith)))
-
-three-red : (s : ℕ → ℕ) (e r g b : ℕ) → three s e r g b (3 * e) ≡ r
-three-red s e r g b = rw (ne-eqb (3 * e) (3 * e + 2) (λ t. omega arith), ne-eqb (3 * e) (3 * e + 1) (λ t. omega arith), eq-eqb (3 * e) (3 * e) refl)
-
-three-green : (s : ℕ → ℕ) (e r g b : ℕ) → three s e r g b (3 * e + 1) ≡ g
-three-green s e r g b = rw (ne-eqb (3 * e + 1) (3 * e + 2) (λ t. omega arith), eq-eqb (3 * e + 1) (3 * e + 1) refl)
-
-three-blue : (s : ℕ → ℕ) (e r g b : ℕ) → three s e r g b (3 * e + 2) ≡ b
-three-blue s e r g b = rw (eq-eqb (3 * e + 2) (3 * e + 2) refl)
-
-colours-set : (s : ℕ → ℕ) (n e r g b : ℕ) → e < n → tab (colourAt (three s e r g b)) n ≡ set (tab (colourAt s) n) e (rgb r g b)
-colours-set s n e r g b h =
-    tab-set (colourAt s) (colourAt (three s e r g b)) n e h
-    (λ k w d. let z : three s e r g b (3 * k) ≡ s (3 * k) = simp add-zero at (beside s e r g b k 0 d (omega arith)) in rw (z, beside s e r g b k 1 d (omega arith), beside s e r g b k 2 d (omega arith)))
-    ∙ rw (three-red s e r g b, three-green s e r g b, three-blue s e r g b)
-
-set-colour₁ : (l : List ℕ) (e r g b : ℕ) → length l ≡ whole → e < 256 →
-    view (set (set (set l (1792 + 3 * e) r) (1792 + (3 * e + 1)) g) (1792 + (3 * e + 2)) b) ≡ withNamed (view l) (withPalette (named (view l)) (set (view l .palette) e (rgb r g b)))
-unfolding view
-set-colour₁ l e r g b n h =
-    ap chipOf
-    (cell-set (set (set l (1792 + 3 * e) r) (1792 + (3 * e + 1)) g) 7 (3 * e + 2) b (omega arith) (simp length-set (omega arith))
-    ∙ ap (λ (s : ℕ → ℕ → ℕ). update s 7 (3 * e + 2) b)
-    (cell-set (set l (1792 + 3 * e) r) 7 (3 * e + 1) g (omega arith) (simp length-set (omega arith))
-    ∙ ap (λ (s : ℕ → ℕ → ℕ). update s 7 (3 * e + 1) g) (cell-set l 7 (3 * e) r (omega arith) (omega arith))))
-    ∙ rw (colours-set (cell l 7) 256 e r g b h)
-
-pub set-colour : (l : List ℕ) (e r g b : ℕ) → length l ≡ whole → e < 256 →
-    view (set (set (set l (1792 + 3 * e) r) (1792 + 3 * e + 1) g) (1792 + 3 * e + 2) b) ≡ withNamed (view l) (withPalette (named (view l)) (set (view l .palette) e (rgb r g b)))
-set-colour l e r g b n h =
-    let x : 1792 + 3 * e + 1 ≡ 1792 + (3 * e + 1) = omega arith in
-    let y : 1792 + 3 * e + 2 ≡ 1792 + (3 * e + 2) = omega arith in
-    rw (x, y) (set-colour₁ l e r g b n h)
-
-pub get-colour : (l : List ℕ) (e : ℕ) → e < 256 →
-    entry (named (view l)) e ≡ rgb (getD l (1792 + 3 * e) 0) (getD l (1792 + (3 * e + 1)) 0) (getD l (1792 + (3 * e + 2)) 0)
-unfolding view cell
-get-colour l e h =
-    tab-at (colourAt (cell l 7)) 256 e (rgb 0 0 0) h
-    ∙ rw (lt-ltb (3 * e) 768 (omega arith), lt-ltb (3 * e + 1) 768 (omega arith), lt-ltb (3 * e + 2) 768 (omega arith))
-
--- a single byte: MSR, PALMASK, the indexes, the palette's index, position and held bytes, and the byte of flags
 abbrev pub single : Chip → ℕ → ℕ → Chip
 single c k v =
     join
@@ -164,39 +92,260 @@ single c k v =
       fr = c .fr;
       mr = c .mr;
       ar = c .ar;
-      msr = cond (eqb 0 k) v (c .msr);
-      palmask = cond (eqb 1 k) v (c .palmask);
-      picture = cond (eqb 13 k) (eqb (v / 4 % 2) 1) (c .picture);
+      msr = cond (eqb MSR k) v (c .msr);
+      palmask = cond (eqb PALMASK k) v (c .palmask);
+      picture = cond (eqb FLAGS k) (eqb (v / 4 % 2) 1) (c .picture);
       palette = c .palette;
     })
     (record {
-      cr = cond (eqb 2 k) v (c .indexes .cr);
-      sr = cond (eqb 3 k) v (c .indexes .sr);
-      gr = cond (eqb 4 k) v (c .indexes .gr);
-      xr = cond (eqb 5 k) v (c .indexes .xr);
-      fr = cond (eqb 6 k) v (c .indexes .fr);
-      mr = cond (eqb 7 k) v (c .indexes .mr);
-      ar = cond (eqb 8 k) v (c .indexes .ar);
-      turn = cond (eqb 13 k) (eqb (v / 2 % 2) 1) (c .indexes .turn);
+      cr = cond (eqb CR-INDEX k) v (c .indexes .cr);
+      sr = cond (eqb SR-INDEX k) v (c .indexes .sr);
+      gr = cond (eqb GR-INDEX k) v (c .indexes .gr);
+      xr = cond (eqb XR-INDEX k) v (c .indexes .xr);
+      fr = cond (eqb FR-INDEX k) v (c .indexes .fr);
+      mr = cond (eqb MR-INDEX k) v (c .indexes .mr);
+      ar = cond (eqb AR-INDEX k) v (c .indexes .ar);
+      turn = cond (eqb FLAGS k) (eqb (v / 2 % 2) 1) (c .indexes .turn);
     })
     (record {
-      index = cond (eqb 9 k) v (c .loading .index);
-      position = cond (eqb 10 k) v (c .loading .position);
-      red = cond (eqb 11 k) v (c .loading .red);
-      green = cond (eqb 12 k) v (c .loading .green);
-      reading = cond (eqb 13 k) (eqb (v % 2) 1) (c .loading .reading);
+      index = cond (eqb INDEX k) v (c .loading .index);
+      position = cond (eqb POSITION k) v (c .loading .position);
+      red = cond (eqb RED k) v (c .loading .red);
+      green = cond (eqb GREEN k) v (c .loading .green);
+      reading = cond (eqb FLAGS k) (eqb (v % 2) 1) (c .loading .reading);
     })
 
 cond-of : (f : ℕ → Bool) (b : Bool) (x y : ℕ) → f (cond b x y) ≡ cond b (f x) (f y)
 cond-of f true x y = refl
 cond-of f false x y = refl
 
-pub set-single : (l : List ℕ) (k v : ℕ) → length l ≡ whole → k < 14 → view (set l (2560 + k) v) ≡ single (view l) k v
+laid-single : (l : List ℕ) (k v : ℕ) → length l ≡ whole → k < PALETTE → laid (set l k v) ≡ singly (laid l) k v
+unfolding laid
+laid-single l k v n h =
+    let w : k < length l = rw n (omega arith) in
+    let flag : (f : ℕ → Bool) → f (getD (set l k v) FLAGS 0) ≡ cond (eqb FLAGS k) (f v) (f (getD l FLAGS 0)) =
+    λ f. ap f (after l k v FLAGS w) ∙ cond-of f (eqb FLAGS k) v (getD l FLAGS 0) in
+    λ t. record {
+      row = row-stays l k v (omega arith) t;
+      msr = after l k v MSR w t;
+      palmask = after l k v PALMASK w t;
+      picture = flag (λ x. eqb (x / 4 % 2) 1) t;
+      palette = palette-stays l k v (λ j x e. omega arith) t;
+      indexes = record {
+        cr = after l k v CR-INDEX w t;
+        sr = after l k v SR-INDEX w t;
+        gr = after l k v GR-INDEX w t;
+        xr = after l k v XR-INDEX w t;
+        fr = after l k v FR-INDEX w t;
+        mr = after l k v MR-INDEX w t;
+        ar = after l k v AR-INDEX w t;
+        turn = flag (λ x. eqb (x / 2 % 2) 1) t;
+      };
+      loading = record {
+        index = after l k v INDEX w t;
+        position = after l k v POSITION w t;
+        red = after l k v RED w t;
+        green = after l k v GREEN w t;
+        reading = flag (λ x. eqb (x % 2) 1) t;
+      };
+    }
+
+pub set-single : (l : List ℕ) (k v : ℕ) → length l ≡ whole → k < PALETTE → view (set l k v) ≡ single (view l) k v
+unfolding view shownBy
+set-single l k v n h = ap shownBy (laid-single l k v n h)
+
+-- ---- a place of the row
+pub set-row : (l : List ℕ) (k v : ℕ) → length l ≡ whole → k < rowSize → view (set l (ROW + k) v) ≡ shownBy (withRow (laid l) (set (laid l .row) k v))
+unfolding view laid
+set-row l k v n h =
+    let w : ROW + k < length l = rw n (omega arith) in
+    let other : (j : ℕ) → j < PALETTE → getD (set l (ROW + k) v) j 0 ≡ getD l j 0 = λ j x. getD-set-other l (ROW + k) j v 0 (λ e. omega arith) in
+    let row : tab (λ j. getD (set l (ROW + k) v) (ROW + j) 0) rowSize ≡ set (tab (λ j. getD l (ROW + j) 0) rowSize) k v =
+    tab-set (λ j. getD l (ROW + j) 0) (λ j. getD (set l (ROW + k) v) (ROW + j) 0) rowSize k h
+    (λ j x d. getD-set-other l (ROW + k) (ROW + j) v 0 (λ e. d (omega arith)))
+    ∙ ap (set (tab (λ j. getD l (ROW + j) 0) rowSize) k) (getD-set-same l (ROW + k) v 0 w) in
+    ap shownBy
+    (λ t. record {
+      row = row t;
+      msr = other MSR (omega arith) t;
+      palmask = other PALMASK (omega arith) t;
+      picture = eqb (other FLAGS (omega arith) t / 4 % 2) 1;
+      palette = palette-stays l (ROW + k) v (λ j x e. omega arith) t;
+      indexes = record {
+        cr = other CR-INDEX (omega arith) t;
+        sr = other SR-INDEX (omega arith) t;
+        gr = other GR-INDEX (omega arith) t;
+        xr = other XR-INDEX (omega arith) t;
+        fr = other FR-INDEX (omega arith) t;
+        mr = other MR-INDEX (omega arith) t;
+        ar = other AR-INDEX (omega arith) t;
+        turn = eqb (other FLAGS (omega arith) t / 2 % 2) 1;
+      };
+      loading = record {
+        index = other INDEX (omega arith) t;
+        position = other POSITION (omega arith) t;
+        red = other RED (omega arith) t;
+        green = other GREEN (omega arith) t;
+        reading = eqb (other FLAGS (omega arith) t % 2) 1;
+      };
+    })
+
+-- the row of a state, and a byte of it
+pub row-length : (l : List ℕ) → length (laid l .row) ≡ rowSize
+unfolding laid
+row-length l = tab-length (λ k. getD l (ROW + k) 0) rowSize
+
+pub row-at : (l : List ℕ) (k : ℕ) → k < rowSize → getD (laid l .row) k 0 ≡ getD l (ROW + k) 0
+unfolding laid
+row-at l k h = tab-at (λ k. getD l (ROW + k) 0) rowSize k 0 h
+
+-- ---- the three bytes of an entry
+module _ (l : List ℕ) (e r g b : ℕ) (n : length l ≡ whole) (h : e < 256) where
+  abbrev three : List ℕ
+  three = set (set (set l (PALETTE + 3 * e) r) (PALETTE + (3 * e + 1)) g) (PALETTE + (3 * e + 2)) b
+
+  away : (j : ℕ) → (j ≡ PALETTE + 3 * e → ⊥) → (j ≡ PALETTE + (3 * e + 1) → ⊥) → (j ≡ PALETTE + (3 * e + 2) → ⊥) → getD three j 0 ≡ getD l j 0
+  away j x y z =
+      getD-set-other (set (set l (PALETTE + 3 * e) r) (PALETTE + (3 * e + 1)) g) (PALETTE + (3 * e + 2)) j b 0 z
+      ∙ (getD-set-other (set l (PALETTE + 3 * e) r) (PALETTE + (3 * e + 1)) j g 0 y ∙ getD-set-other l (PALETTE + 3 * e) j r 0 x)
+
+  at-red : getD three (PALETTE + 3 * e) 0 ≡ r
+  at-red =
+      getD-set-other (set (set l (PALETTE + 3 * e) r) (PALETTE + (3 * e + 1)) g) (PALETTE + (3 * e + 2)) (PALETTE + 3 * e) b 0 (λ x. omega arith)
+      ∙ (getD-set-other (set l (PALETTE + 3 * e) r) (PALETTE + (3 * e + 1)) (PALETTE + 3 * e) g 0 (λ x. omega arith)
+      ∙ getD-set-same l (PALETTE + 3 * e) r 0 (rw n (omega arith)))
+
+  at-green : getD three (PALETTE + (3 * e + 1)) 0 ≡ g
+  at-green =
+      getD-set-other (set (set l (PALETTE + 3 * e) r) (PALETTE + (3 * e + 1)) g) (PALETTE + (3 * e + 2)) (PALETTE + (3 * e + 1)) b 0 (λ x. omega arith)
+      ∙ getD-set-same (set l (PALETTE + 3 * e) r) (PALETTE + (3 * e + 1)) g 0 (simp length-set (rw n (omega arith)))
+
+  at-blue : getD three (PALETTE + (3 * e + 2)) 0 ≡ b
+  at-blue = getD-set-same (set (set l (PALETTE + 3 * e) r) (PALETTE + (3 * e + 1)) g) (PALETTE + (3 * e + 2)) b 0 (simp length-set (rw n (omega arith)))
+
+  entries : tab (colourIn three) 256 ≡ set (tab (colourIn l) 256) e (rgb r g b)
+  entries =
+      tab-set (colourIn l) (colourIn three) 256 e h
+      (λ k w d. rw (
+        away (PALETTE + 3 * k) (λ x. d (omega arith)) (λ x. omega arith) (λ x. omega arith),
+        away (PALETTE + (3 * k + 1)) (λ x. omega arith) (λ x. d (omega arith)) (λ x. omega arith),
+        away (PALETTE + (3 * k + 2)) (λ x. omega arith) (λ x. omega arith) (λ x. d (omega arith)),
+      ))
+      ∙ rw (at-red, at-green, at-blue)
+
+  early : (j : ℕ) → j < PALETTE → getD three j 0 ≡ getD l j 0
+  early j w = away j (λ x. omega arith) (λ x. omega arith) (λ x. omega arith)
+
+  -- written as the code counts
+  pub set-colour : view (set (set (set l (PALETTE + 3 * e) r) (PALETTE + 3 * e + 1) g) (PALETTE + 3 * e + 2) b)
+      ≡ withNamed (view l) (withPalette (named (view l)) (set (view l .palette) e (rgb r g b)))
+  unfolding view shownBy laid
+  set-colour =
+      let x : PALETTE + 3 * e + 1 ≡ PALETTE + (3 * e + 1) = omega arith in
+      let y : PALETTE + 3 * e + 2 ≡ PALETTE + (3 * e + 2) = omega arith in
+      let row : tab (λ j. getD three (ROW + j) 0) rowSize ≡ tab (λ j. getD l (ROW + j) 0) rowSize =
+      tab-same (λ j. getD three (ROW + j) 0) (λ j. getD l (ROW + j) 0) rowSize (λ j w. away (ROW + j) (λ x. omega arith) (λ x. omega arith) (λ x. omega arith)) in
+      rw (x, y)
+      (ap shownBy
+      (λ t. record {
+        row = row t;
+        msr = early MSR (omega arith) t;
+        palmask = early PALMASK (omega arith) t;
+        picture = eqb (early FLAGS (omega arith) t / 4 % 2) 1;
+        palette = entries t;
+        indexes = record {
+          cr = early CR-INDEX (omega arith) t;
+          sr = early SR-INDEX (omega arith) t;
+          gr = early GR-INDEX (omega arith) t;
+          xr = early XR-INDEX (omega arith) t;
+          fr = early FR-INDEX (omega arith) t;
+          mr = early MR-INDEX (omega arith) t;
+          ar = early AR-INDEX (omega arith) t;
+          turn = eqb (early FLAGS (omega arith) t / 2 % 2) 1;
+        };
+        loading = record {
+          index = early INDEX (omega arith) t;
+          position = early POSITION (omega arith) t;
+          red = early RED (omega arith) t;
+          green = early GREEN (omega arith) t;
+          reading = eqb (early FLAGS (omega arith) t % 2) 1;
+        };
+      }))
+
+pub get-colour : (l : List ℕ) (e : ℕ) → e < 256 → entry (named (view l)) e ≡ colourIn l e
+unfolding view shownBy laid
+get-colour l e h = tab-at (colourIn l) 256 e (rgb 0 0 0) h
+
+-- ---- a register of any group: its byte, or none
+
+-- where a register is: in the row, alone, or nowhere; and what the table of places says of it
+pub data Where (g : Group) (i : ℕ) : Type 0 where
+  InRow : (k : ℕ) → slotOf g i ≡ At k → k < rowSize → placeOf g i ≡ ROW + k → standingOf g i / 128 % 2 ≡ 1 → Where g i
+  IsMsr : g ≡ Msr → Where g i
+  IsPalmask : g ≡ Palmask → Where g i
+  Unlisted : isIndexed g ≡ true → slotOf g i ≡ Nowhere → standingOf g i ≡ 0 → Where g i
+
+low-high : (d : ℕ) → d < 128 → ((128 + d) % 128 ≡ d) × ((128 + d) / 128 % 2 ≡ 1)
+low-high d h = let half : (128 + d) / 128 ≡ 1 = omega arith in (omega arith, rw half (omega arith))
+
+in-row : (g : Group) (i : ℕ) → i < 256 → isIndexed g ≡ true → baseOf g ≡ ROW + before g → Where g i
+unfolding placeOf standingOf
+in-row g i h x b = go (slotOf g i) refl
+  where
+    stood : (s : Slot) → slotOf g i ≡ s → standingOf g i ≡ standing (before g) s
+    stood s e = rw (x, e)
+
+    go : (s : Slot) → slotOf g i ≡ s → Where g i
+    go (At k) e =
+        let s = stands g i k h e in
+        let (low, high) = low-high (k - before g) (omega (arith, s .from, s .near)) in
+        InRow k e (s .within) (rw (b, stood (At k) e, low) (omega (arith, s .from))) (rw (stood (At k) e) high)
+    go Nowhere e = Unlisted x e (stood Nowhere e)
+
+pub where-is : (g : Group) (i : ℕ) → i < 256 → Where g i
+unfolding baseOf
+where-is Cr i h = in-row Cr i h refl refl
+where-is Sr i h = in-row Sr i h refl refl
+where-is Gr i h = in-row Gr i h refl refl
+where-is Xr i h = in-row Xr i h refl refl
+where-is Fr i h = in-row Fr i h refl refl
+where-is Mr i h = in-row Mr i h refl refl
+where-is Msr i h = IsMsr refl
+where-is Palmask i h = IsPalmask refl
+where-is Ar i h = in-row Ar i h refl refl
+
+-- the place lies among the bytes
+pub place-below : (g : Group) (i : ℕ) → i < 256 → baseOf g < whole → placeOf g i < whole
+unfolding placeOf baseOf standingOf
+place-below g i h b = go (where-is g i h)
+  where
+    go : Where g i → placeOf g i < whole
+    go (InRow k e w p q) = rw p (omega arith)
+    go (IsMsr e) = rw e (omega arith)
+    go (IsPalmask e) = rw e (omega arith)
+    go (Unlisted x e z) = rw z (omega (arith, b))
+
+-- a register of the row as the chip shows it
+pub row-shown : (g : Group) (l : List ℕ) (i : ℕ) → i < 256 → isIndexed g ≡ true → register g (named (view l)) i ≡ inRow (laid l .row) (slotOf g i)
 unfolding view
-set-single l k v n h =
-    view-set l 8 k v h (omega arith)
-    ∙ rw (
-      cond-of (λ x. eqb (x % 2) 1) (eqb 13 k) v (cell l 8 13),
-      cond-of (λ x. eqb (x / 2 % 2) 1) (eqb 13 k) v (cell l 8 13),
-      cond-of (λ x. eqb (x / 4 % 2) 1) (eqb 13 k) v (cell l 8 13),
-    )
+row-shown g l i h x = shown-at g (laid l) i h x
+
+-- what the code shows of a register is its byte
+module _ (g : Group) (l : List ℕ) (i : ℕ) (h : i < 256) where
+  stored : (k : ℕ) → slotOf g i ≡ At k → k < rowSize → placeOf g i ≡ ROW + k → standingOf g i / 128 % 2 ≡ 1
+      → register g (named (view l)) i ≡ cond (eqb (standingOf g i / 128 % 2) 1) (getD l (placeOf g i) 0) 0
+  stored k e w p q = row-shown g l i h (stands g i k h e .listed) ∙ (ap (inRow (laid l .row)) e ∙ (row-at l k w ∙ rw (q, p)))
+
+  unstored : isIndexed g ≡ true → slotOf g i ≡ Nowhere → standingOf g i ≡ 0
+      → register g (named (view l)) i ≡ cond (eqb (standingOf g i / 128 % 2) 1) (getD l (placeOf g i) 0) 0
+  unstored x e z = row-shown g l i h x ∙ (ap (inRow (laid l .row)) e ∙ rw z)
+
+  pub get-reg : register g (named (view l)) i ≡ cond (eqb (standingOf g i / 128 % 2) 1) (getD l (placeOf g i) 0) 0
+  unfolding view shownBy laid placeOf baseOf standingOf
+  get-reg = go (where-is g i h)
+    where
+      go : Where g i → register g (named (view l)) i ≡ cond (eqb (standingOf g i / 128 % 2) 1) (getD l (placeOf g i) 0) 0
+      go (InRow k e w p q) = stored k e w p q
+      go (IsMsr e) = rw e
+      go (IsPalmask e) = rw e
+      go (Unlisted x e z) = unstored x e z

@@ -9,97 +9,94 @@ use lib.ListN.{getD, length}
 use lib.Seq.{ext-getD}
 use native.Mathlib.Omega.{arith}
 use borrow.Author.Tests.{ltb-true, ltb-false, eqb-true, eqb-false}
-use Rattle.chip.specs.State.{named}
-use Rattle.chip.specs.Palette.{entry}
+use Rattle.lists.proofs.Tab.{tab-at}
+use Rattle.chip_registers.specs.Row.{rowSize}
+use Rattle.chip.specs.Palette.{rgb}
+use Rattle.chip.specs.View.{Kept}
 use Rattle.chip.specs.declared.Chip.{Chip}
 use Rattle.chip.specs.declared.Rgb.{Rgb}
-use Rattle.lent_chip.specs.Layout.{whole, cell, view, spare, Holds}
+use Rattle.chip.proofs.ViewLaws.{view-decides}
+use Rattle.lent_chip.specs.Layout.{FLAGS, PALETTE, ROW, whole, colourIn, laid, view, spare, Holds}
 use Rattle.lent_chip.specs.Accesses.{Left}
 use Rattle.lent_chip.proofs.Flags.{same-bit, same-flags}
-use Rattle.lent_chip.proofs.Stores.{get-table, get-colour}
-
-not-seven : (q : ℕ) → suc (suc (suc (suc (suc (suc (suc q)))))) < 7 → ⊥
-not-seven q h = omega arith
+use Rattle.lent_chip.proofs.Stores.{row-length, row-at}
 
 not-thirteen : (q : ℕ) → (suc (suc (suc (suc (suc (suc (suc (suc (suc (suc (suc (suc (suc q))))))))))))) < 13 → ⊥
 not-thirteen q h = omega arith
 
-not-lt : (d : ℕ) → suc (suc (suc d)) < 3 → ⊥
-not-lt d h = omega arith
+not-three : (d : ℕ) → suc (suc (suc d)) < 3 → ⊥
+not-three d h = omega arith
 
-module _ (a b : List ℕ) (e : view a ≡ view b) where
-  table : (q i : ℕ) → q < 7 → i < 256 → getD a (256 * q + i) 0 ≡ getD b (256 * q + i) 0
-  unfolding view
-  table zero i h w = sym (get-table a 0 i w) ∙ (ap (λ (c : Chip). getD (c .cr) i 0) e ∙ get-table b 0 i w)
-  table (suc zero) i h w = sym (get-table a 1 i w) ∙ (ap (λ (c : Chip). getD (c .sr) i 0) e ∙ get-table b 1 i w)
-  table (suc (suc zero)) i h w = sym (get-table a 2 i w) ∙ (ap (λ (c : Chip). getD (c .gr) i 0) e ∙ get-table b 2 i w)
-  table (suc (suc (suc zero))) i h w = sym (get-table a 3 i w) ∙ (ap (λ (c : Chip). getD (c .xr) i 0) e ∙ get-table b 3 i w)
-  table (suc (suc (suc (suc zero)))) i h w = sym (get-table a 4 i w) ∙ (ap (λ (c : Chip). getD (c .fr) i 0) e ∙ get-table b 4 i w)
-  table (suc (suc (suc (suc (suc zero))))) i h w = sym (get-table a 5 i w) ∙ (ap (λ (c : Chip). getD (c .mr) i 0) e ∙ get-table b 5 i w)
-  table (suc (suc (suc (suc (suc (suc zero)))))) i h w = sym (get-table a 6 i w) ∙ (ap (λ (c : Chip). getD (c .ar) i 0) e ∙ get-table b 6 i w)
-  table (suc (suc (suc (suc (suc (suc (suc q))))))) i h w = absurd (not-seven q h)
+-- what is kept is the same, so each byte is, the flags apart
+module _ (a b : List ℕ) (e : laid a ≡ laid b) where
+  row : (k : ℕ) → k < rowSize → getD a (ROW + k) 0 ≡ getD b (ROW + k) 0
+  row k h = sym (row-at a k h) ∙ (ap (λ (f : Kept). getD (f .row) k 0) e ∙ row-at b k h)
 
-  colour : (k d : ℕ) → k < 256 → d < 3 → getD a (1792 + (3 * k + d)) 0 ≡ getD b (1792 + (3 * k + d)) 0
-  colour k zero h w =
-      let x : 1792 + (3 * k + 0) ≡ 1792 + 3 * k = omega arith in
-      rw x (ap (λ (c : Rgb). c .red) (sym (get-colour a k h) ∙ (ap (λ (c : Chip). entry (named c) k) e ∙ get-colour b k h)))
-  colour k (suc zero) h w = ap (λ (c : Rgb). c .green) (sym (get-colour a k h) ∙ (ap (λ (c : Chip). entry (named c) k) e ∙ get-colour b k h))
-  colour k (suc (suc zero)) h w = ap (λ (c : Rgb). c .blue) (sym (get-colour a k h) ∙ (ap (λ (c : Chip). entry (named c) k) e ∙ get-colour b k h))
-  colour k (suc (suc (suc d))) h w = absurd (not-lt d w)
+  entry : (k : ℕ) → k < 256 → colourIn a k ≡ colourIn b k
+  unfolding laid
+  entry k h =
+      sym (tab-at (colourIn a) 256 k (rgb 0 0 0) h)
+      ∙ (ap (λ (f : Kept). getD (f .palette) k (rgb 0 0 0)) e ∙ tab-at (colourIn b) 256 k (rgb 0 0 0) h)
 
-  single : (k : ℕ) → k < 13 → getD a (2560 + k) 0 ≡ getD b (2560 + k) 0
-  unfolding view cell
-  single zero h = ap (λ (c : Chip). c .msr) e
-  single (suc zero) h = ap (λ (c : Chip). c .palmask) e
-  single (suc (suc zero)) h = ap (λ (c : Chip). c .indexes .cr) e
-  single (suc (suc (suc zero))) h = ap (λ (c : Chip). c .indexes .sr) e
-  single (suc (suc (suc (suc zero)))) h = ap (λ (c : Chip). c .indexes .gr) e
-  single (suc (suc (suc (suc (suc zero))))) h = ap (λ (c : Chip). c .indexes .xr) e
-  single (suc (suc (suc (suc (suc (suc zero)))))) h = ap (λ (c : Chip). c .indexes .fr) e
-  single (suc (suc (suc (suc (suc (suc (suc zero))))))) h = ap (λ (c : Chip). c .indexes .mr) e
-  single (suc (suc (suc (suc (suc (suc (suc (suc zero)))))))) h = ap (λ (c : Chip). c .indexes .ar) e
-  single (suc (suc (suc (suc (suc (suc (suc (suc (suc zero))))))))) h = ap (λ (c : Chip). c .loading .index) e
-  single (suc (suc (suc (suc (suc (suc (suc (suc (suc (suc zero)))))))))) h = ap (λ (c : Chip). c .loading .position) e
-  single (suc (suc (suc (suc (suc (suc (suc (suc (suc (suc (suc zero))))))))))) h = ap (λ (c : Chip). c .loading .red) e
-  single (suc (suc (suc (suc (suc (suc (suc (suc (suc (suc (suc (suc zero)))))))))))) h = ap (λ (c : Chip). c .loading .green) e
+  colour : (k d : ℕ) → k < 256 → d < 3 → getD a (PALETTE + (3 * k + d)) 0 ≡ getD b (PALETTE + (3 * k + d)) 0
+  colour k zero h w = let x : PALETTE + (3 * k + 0) ≡ PALETTE + 3 * k = omega arith in rw x (ap (λ (c : Rgb). c .red) (entry k h))
+  colour k (suc zero) h w = ap (λ (c : Rgb). c .green) (entry k h)
+  colour k (suc (suc zero)) h w = ap (λ (c : Rgb). c .blue) (entry k h)
+  colour k (suc (suc (suc d))) h w = absurd (not-three d w)
+
+  single : (k : ℕ) → k < FLAGS → getD a k 0 ≡ getD b k 0
+  unfolding laid
+  single zero h = ap (λ (f : Kept). f .msr) e
+  single (suc zero) h = ap (λ (f : Kept). f .palmask) e
+  single (suc (suc zero)) h = ap (λ (f : Kept). f .indexes .cr) e
+  single (suc (suc (suc zero))) h = ap (λ (f : Kept). f .indexes .sr) e
+  single (suc (suc (suc (suc zero)))) h = ap (λ (f : Kept). f .indexes .gr) e
+  single (suc (suc (suc (suc (suc zero))))) h = ap (λ (f : Kept). f .indexes .xr) e
+  single (suc (suc (suc (suc (suc (suc zero)))))) h = ap (λ (f : Kept). f .indexes .fr) e
+  single (suc (suc (suc (suc (suc (suc (suc zero))))))) h = ap (λ (f : Kept). f .indexes .mr) e
+  single (suc (suc (suc (suc (suc (suc (suc (suc zero)))))))) h = ap (λ (f : Kept). f .indexes .ar) e
+  single (suc (suc (suc (suc (suc (suc (suc (suc (suc zero))))))))) h = ap (λ (f : Kept). f .loading .index) e
+  single (suc (suc (suc (suc (suc (suc (suc (suc (suc (suc zero)))))))))) h = ap (λ (f : Kept). f .loading .position) e
+  single (suc (suc (suc (suc (suc (suc (suc (suc (suc (suc (suc zero))))))))))) h = ap (λ (f : Kept). f .loading .red) e
+  single (suc (suc (suc (suc (suc (suc (suc (suc (suc (suc (suc (suc zero)))))))))))) h = ap (λ (f : Kept). f .loading .green) e
   single (suc (suc (suc (suc (suc (suc (suc (suc (suc (suc (suc (suc (suc q))))))))))))) h = absurd (not-thirteen q h)
 
-  at : (k : ℕ) → k < 2573 → getD a k 0 ≡ getD b k 0
-  at k h = go (ltb k 1792) (ltb k 2560) refl refl where
-    go : (x y : Bool) → ltb k 1792 ≡ x → ltb k 2560 ≡ y → getD a k 0 ≡ getD b k 0
-    go true y p q =
-        let w : k < 1792 = ltb-true k 1792 p in
-        let d : 256 * (k / 256) + k % 256 ≡ k = omega arith in
-        let t : getD a (256 * (k / 256) + k % 256) 0 ≡ getD b (256 * (k / 256) + k % 256) 0 = table (k / 256) (k % 256) (omega arith) (omega arith) in
-        rw d at t
-    go false true p q =
-        let w : k < 2560 = ltb-true k 2560 q in
-        let v : 1792 ≤ k = ltb-false k 1792 p in
-        let d : 1792 + (3 * ((k - 1792) / 3) + (k - 1792) % 3) ≡ k = omega arith in
-        let t : getD a (1792 + (3 * ((k - 1792) / 3) + (k - 1792) % 3)) 0 ≡ getD b (1792 + (3 * ((k - 1792) / 3) + (k - 1792) % 3)) 0 = colour ((k - 1792) / 3) ((k - 1792) % 3) (omega arith) (omega arith) in
-        rw d at t
-    go false false p q =
-        let v : 2560 ≤ k = ltb-false k 2560 q in
-        let d : 2560 + (k - 2560) ≡ k = omega arith in
-        let t : getD a (2560 + (k - 2560)) 0 ≡ getD b (2560 + (k - 2560)) 0 = single (k - 2560) (omega arith) in
-        rw d at t
-
-  -- the last byte: three of its bits are the chip's, the others are spare
-  last : spare a ≡ spare b → getD a 2573 0 ≡ getD b 2573 0
-  unfolding view cell spare
-  last s =
-      same-flags (getD a 2573 0) (getD b 2573 0)
-      (same-bit (getD a 2573 0) (getD b 2573 0) (ap (λ (c : Chip). c .loading .reading) e))
-      (same-bit (getD a 2573 0 / 2) (getD b 2573 0 / 2) (ap (λ (c : Chip). c .indexes .turn) e))
-      (same-bit (getD a 2573 0 / 4) (getD b 2573 0 / 4) (ap (λ (c : Chip). c .picture) e))
+  -- three bits of the flags are the chip's, the others are spare
+  flags : spare a ≡ spare b → getD a FLAGS 0 ≡ getD b FLAGS 0
+  unfolding laid spare
+  flags s =
+      same-flags (getD a FLAGS 0) (getD b FLAGS 0)
+      (same-bit (getD a FLAGS 0) (getD b FLAGS 0) (ap (λ (f : Kept). f .loading .reading) e))
+      (same-bit (getD a FLAGS 0 / 2) (getD b FLAGS 0 / 2) (ap (λ (f : Kept). f .indexes .turn) e))
+      (same-bit (getD a FLAGS 0 / 4) (getD b FLAGS 0 / 4) (ap (λ (f : Kept). f .picture) e))
       s
 
-  same-bytes : length a ≡ whole → length b ≡ whole → spare a ≡ spare b → a ≡ b
-  same-bytes n m s = ext-getD 0 a b (rw (n, m)) (λ k h. go k (ltb k 2573) refl (omega arith))
-    where
-      go : (k : ℕ) (x : Bool) → ltb k 2573 ≡ x → k < 2574 → getD a k 0 ≡ getD b k 0
-      go k true p h = at k (ltb-true k 2573 p)
-      go k false p h = let t : k ≡ 2573 = omega (arith, ltb-false k 2573 p) in rw t (last s)
+  -- a byte below the palette, in it, or in the row
+  at : spare a ≡ spare b → (k : ℕ) → k < whole → getD a k 0 ≡ getD b k 0
+  at s k h = go (eqb k FLAGS) (ltb k PALETTE) (ltb k ROW) refl refl refl where
+    go : (x y z : Bool) → eqb k FLAGS ≡ x → ltb k PALETTE ≡ y → ltb k ROW ≡ z → getD a k 0 ≡ getD b k 0
+    go true y z o p q = rw (eqb-true k FLAGS o) (flags s)
+    go false true z o p q = let d : k ≡ FLAGS → ⊥ = eqb-false k FLAGS o in single k (omega (arith, ltb-true k PALETTE p))
+    go false false true o p q =
+        let w : k < ROW = ltb-true k ROW q in
+        let v : PALETTE ≤ k = ltb-false k PALETTE p in
+        let d : PALETTE + (3 * ((k - PALETTE) / 3) + (k - PALETTE) % 3) ≡ k = omega arith in
+        let t : getD a (PALETTE + (3 * ((k - PALETTE) / 3) + (k - PALETTE) % 3)) 0 ≡ getD b (PALETTE + (3 * ((k - PALETTE) / 3) + (k - PALETTE) % 3)) 0 =
+        colour ((k - PALETTE) / 3) ((k - PALETTE) % 3) (omega arith) (omega arith) in
+        rw d at t
+    go false false false o p q =
+        let v : ROW ≤ k = ltb-false k ROW q in
+        let d : ROW + (k - ROW) ≡ k = omega arith in
+        let t : getD a (ROW + (k - ROW)) 0 ≡ getD b (ROW + (k - ROW)) 0 = row (k - ROW) (omega arith) in
+        rw d at t
+
+-- what is shown decides what is kept: crate `chip`'s law
+same-laid : (a b : List ℕ) → view a ≡ view b → laid a ≡ laid b
+unfolding view
+same-laid a b e = view-decides (laid a) (laid b) (row-length a) (row-length b) e
+
+same-bytes : (a b : List ℕ) → view a ≡ view b → length a ≡ whole → length b ≡ whole → spare a ≡ spare b → a ≡ b
+same-bytes a b e n m s = ext-getD 0 a b (rw (n, m)) (λ k h. at a b (same-laid a b e) s k (omega arith))
 
 -- the bytes that hold a chip, with given spare bits, are one list
 pub holds-decides : (l m : List ℕ) (c : Chip) (bits : ℕ) → Holds l c bits → Holds m c bits → l ≡ m

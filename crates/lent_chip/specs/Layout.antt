@@ -1,74 +1,118 @@
 -- The chip on lent bytes: which byte of a list is which part of the state. Document 01, "Ports" (the chip state); document 02,
--- P1, for the attribute registers. Regions follow one another: 0 to 6 are the tables of CR, SR, GR, XR, FR, MR and AR, 7 is the
--- palette with three bytes an entry, and 8 has the single bytes: MSR, PALMASK, the seven indexes in the order of the tables, the
--- palette's index, its position, the bytes held at red and at green, and last a byte of flags: bit 0 says that the read index was
--- written last (PALSTATE), bit 1 that data comes next at 3C0h, and bit 2 is bit 5 of the attribute index, the picture. Any list
--- of `whole` bytes is a state. The upper five bits of the last byte are no part of the chip: they are spare, and stay.
-use Prim.Native.Nat.{ℕ, suc, zero, _+_, _*_, _/_, _%_}
+-- P1, for the attribute registers, and P7: only listed registers are kept. First come the single bytes, then the palette with
+-- three bytes an entry, and last, since it is what grows, the row of the listed registers (`slotOf` of crate `chip_registers`
+-- says where each stands). Every place has a name below. An unlisted index has no byte, and reads 00h. Any list of `whole` bytes
+-- is a state. The upper five bits of the flags are no part of the chip: they are spare, and stay.
+use Prim.Native.Nat.{ℕ, _+_, _*_, _/_, _%_}
 use mathlib.Core.Path.{_≡_}
 use mathlib.Core.Bool.{cond}
 use mathlib.Core.List.{List}
-use lib.Dec.{eqb, ltb}
+use lib.Dec.{eqb}
 use lib.ListN.{getD, length}
 use Rattle.lists.specs.Tab.{tab}
+use Rattle.chip_registers.specs.Row.{before, rowSize}
 use Rattle.chip_registers.specs.declared.Group.{Group}
 use Rattle.chip_registers.specs.declared.Group.the-variants.{Cr, Sr, Gr, Xr, Fr, Mr, Msr, Palmask, Ar}
-use Rattle.chip.specs.State.{join}
+use Rattle.chip_masks.specs.Table.{standingOf}
 use Rattle.chip.specs.Palette.{rgb}
+use Rattle.chip.specs.View.{Kept, view as shownBy}
 use Rattle.chip.specs.declared.Chip.{Chip}
+use Rattle.chip.specs.declared.Rgb.{Rgb}
 
--- the bytes of a region, and where it starts
-abbrev pub size : ℕ → ℕ
-size q = cond (ltb q 7) 256 (cond (eqb q 7) 768 (cond (eqb q 8) 14 0))
+-- the single bytes: MSR and PALMASK, the seven indexes, the palette's index, its position, the bytes held at red and at green, and
+-- the flags: bit 0 says that the read index was written last (PALSTATE), bit 1 that data comes next at 3C0h, and bit 2 is bit 5 of
+-- the attribute index, the picture
+abbrev pub MSR : ℕ
+MSR = 0
 
-abbrev pub start : ℕ → ℕ
-start zero = 0
-start (suc q) = start q + size q
+abbrev pub PALMASK : ℕ
+PALMASK = 1
 
--- the bytes of a state; that the regions fill them is the law `regions-fill`
+abbrev pub CR-INDEX : ℕ
+CR-INDEX = 2
+
+abbrev pub SR-INDEX : ℕ
+SR-INDEX = 3
+
+abbrev pub GR-INDEX : ℕ
+GR-INDEX = 4
+
+abbrev pub XR-INDEX : ℕ
+XR-INDEX = 5
+
+abbrev pub FR-INDEX : ℕ
+FR-INDEX = 6
+
+abbrev pub MR-INDEX : ℕ
+MR-INDEX = 7
+
+abbrev pub AR-INDEX : ℕ
+AR-INDEX = 8
+
+abbrev pub INDEX : ℕ
+INDEX = 9
+
+abbrev pub POSITION : ℕ
+POSITION = 10
+
+abbrev pub RED : ℕ
+RED = 11
+
+abbrev pub GREEN : ℕ
+GREEN = 12
+
+abbrev pub FLAGS : ℕ
+FLAGS = 13
+
+-- where the palette starts, and where the row does; that they follow one another and fill a state is the law `regions-fill`
+abbrev pub PALETTE : ℕ
+PALETTE = 14
+
+abbrev pub ROW : ℕ
+ROW = 782
+
+-- the bytes of a state
 abbrev pub whole : ℕ
-whole = 2574
+whole = 1057
 
--- byte i of region q; 0 past the region's end
-unfoldable pub cell : List ℕ → ℕ → ℕ → ℕ
-cell l q i = cond (ltb i (size q)) (getD l (start q + i) 0) 0
+-- entry e of the palette
+abbrev pub colourIn : List ℕ → ℕ → Rgb
+colourIn l e = rgb (getD l (PALETTE + 3 * e) 0) (getD l (PALETTE + (3 * e + 1)) 0) (getD l (PALETTE + (3 * e + 2)) 0)
 
--- the chip whose region q has s q i as byte i
-abbrev pub chipOf : (ℕ → ℕ → ℕ) → Chip
-chipOf s =
-    join
-    (record {
-      cr = tab (s 0) 256;
-      sr = tab (s 1) 256;
-      gr = tab (s 2) 256;
-      xr = tab (s 3) 256;
-      fr = tab (s 4) 256;
-      mr = tab (s 5) 256;
-      ar = tab (s 6) 256;
-      msr = s 8 0;
-      palmask = s 8 1;
-      picture = eqb (s 8 13 / 4 % 2) 1;
-      palette = tab (λ e. rgb (s 7 (3 * e)) (s 7 (3 * e + 1)) (s 7 (3 * e + 2))) 256;
-    })
-    (record {
-      cr = s 8 2;
-      sr = s 8 3;
-      gr = s 8 4;
-      xr = s 8 5;
-      fr = s 8 6;
-      mr = s 8 7;
-      ar = s 8 8;
-      turn = eqb (s 8 13 / 2 % 2) 1;
-    })
-    (record { index = s 8 9; position = s 8 10; red = s 8 11; green = s 8 12; reading = eqb (s 8 13 % 2) 1 })
+-- what bytes keep, as crate `chip` keeps it
+unfoldable pub laid : List ℕ → Kept
+laid l = record {
+  row = tab (λ k. getD l (ROW + k) 0) rowSize;
+  msr = getD l MSR 0;
+  palmask = getD l PALMASK 0;
+  picture = eqb (getD l FLAGS 0 / 4 % 2) 1;
+  palette = tab (colourIn l) 256;
+  indexes = record {
+    cr = getD l CR-INDEX 0;
+    sr = getD l SR-INDEX 0;
+    gr = getD l GR-INDEX 0;
+    xr = getD l XR-INDEX 0;
+    fr = getD l FR-INDEX 0;
+    mr = getD l MR-INDEX 0;
+    ar = getD l AR-INDEX 0;
+    turn = eqb (getD l FLAGS 0 / 2 % 2) 1;
+  };
+  loading = record {
+    index = getD l INDEX 0;
+    position = getD l POSITION 0;
+    red = getD l RED 0;
+    green = getD l GREEN 0;
+    reading = eqb (getD l FLAGS 0 % 2) 1;
+  };
+}
 
--- the chip that bytes hold
+-- the chip that bytes hold: what they keep, as crate `chip` shows it
 unfoldable pub view : List ℕ → Chip
-view l = chipOf (cell l)
+view l = shownBy (laid l)
 
 -- the bits that are no part of the chip
 unfoldable pub spare : List ℕ → ℕ
-spare l = getD l 2573 0 / 8
+spare l = getD l FLAGS 0 / 8
 
 -- bytes of the right length that hold a chip, with these spare bits. They are the only ones: law `holds-decides`
 pub record Holds (l : List ℕ) (c : Chip) (bits : ℕ) : Type 0 where
@@ -76,31 +120,21 @@ pub record Holds (l : List ℕ) (c : Chip) (bits : ℕ) : Type 0 where
   pub chip : view l ≡ c
   pub spare : spare l ≡ bits
 
--- where a register's byte is
-abbrev pub regionOf : Group → ℕ
-regionOf Cr = 0
-regionOf Sr = 1
-regionOf Gr = 2
-regionOf Xr = 3
-regionOf Fr = 4
-regionOf Mr = 5
-regionOf Msr = 8
-regionOf Palmask = 8
-regionOf Ar = 6
+-- where the bytes of a group's registers start
+unfoldable pub baseOf : Group → ℕ
+baseOf Cr = ROW + before Cr
+baseOf Sr = ROW + before Sr
+baseOf Gr = ROW + before Gr
+baseOf Xr = ROW + before Xr
+baseOf Fr = ROW + before Fr
+baseOf Mr = ROW + before Mr
+baseOf Msr = MSR
+baseOf Palmask = PALMASK
+baseOf Ar = ROW + before Ar
 
-abbrev pub slotOf : Group → ℕ → ℕ
-slotOf Cr i = i
-slotOf Sr i = i
-slotOf Gr i = i
-slotOf Xr i = i
-slotOf Fr i = i
-slotOf Mr i = i
-slotOf Msr i = 0
-slotOf Palmask i = 1
-slotOf Ar i = i
-
+-- where a register's byte is; an unlisted index leads to its group's first byte
 unfoldable pub placeOf : Group → ℕ → ℕ
-placeOf g i = start (regionOf g) + slotOf g i
+placeOf g i = baseOf g + standingOf g i % 128
 
 -- which byte of a colour a position is at; a position outside the three counts as red (HOUSE)
 abbrev pub thirdOf : ℕ → ℕ

@@ -9,6 +9,14 @@ ghost use Rattle.chip.specs.Access.{writeTo, readFrom, portWritten, portRead};
 ghost use Rattle.lent_chip.specs.Layout.{whole, view, spare, Holds};
 ghost use Rattle.lent_chip.specs.Accesses.{Left, WroteIn, ReadIn};
 ghost use Rattle.lent_chip.specs.Numbers.{writeTable, readTable};
+use crate::AR_INDEX;
+use crate::CR_INDEX;
+use crate::FR_INDEX;
+use crate::GR_INDEX;
+use crate::INDEX;
+use crate::MR_INDEX;
+use crate::SR_INDEX;
+use crate::XR_INDEX;
 use crate::aim;
 use crate::attribute_index;
 use crate::get;
@@ -27,7 +35,7 @@ use chip_registers::Group;
 use chip_registers::index_kept;
 
 // How many bytes a state has.
-pub const STATE: usize = 2574;
+pub const STATE: usize = 1057;
 
 // Document 01's numbers of an access. An access answers by its number, a read by 256 times the number plus the byte:
 // one number stays in a register, where an enum or a struct would go through memory.
@@ -47,15 +55,15 @@ fn index_byte(state: &[u8], g: Group) -> u8
     ensures { λ r. ⌜ r ≡ indexByte g (view (now (state .entry)) .indexes) ⌝ }
 {
     match g {
-        Group::Cr => state[2562],
-        Group::Sr => state[2563],
-        Group::Gr => state[2564],
-        Group::Xr => state[2565],
-        Group::Fr => state[2566],
-        Group::Mr => state[2567],
+        Group::Cr => state[CR_INDEX],
+        Group::Sr => state[SR_INDEX],
+        Group::Gr => state[GR_INDEX],
+        Group::Xr => state[XR_INDEX],
+        Group::Fr => state[FR_INDEX],
+        Group::Mr => state[MR_INDEX],
         Group::Msr => 0x00,
         Group::Palmask => 0x00,
-        Group::Ar => state[2568],
+        Group::Ar => state[AR_INDEX],
     }
 }
 
@@ -74,15 +82,15 @@ fn set_index(state: &mut [u8], g: Group, v: u8)
 {
     let kept = index_kept(g, v);
     match g {
-        Group::Cr => state[2562] = kept,
-        Group::Sr => state[2563] = kept,
-        Group::Gr => state[2564] = kept,
-        Group::Xr => state[2565] = kept,
-        Group::Fr => state[2566] = kept,
-        Group::Mr => state[2567] = kept,
+        Group::Cr => state[CR_INDEX] = kept,
+        Group::Sr => state[SR_INDEX] = kept,
+        Group::Gr => state[GR_INDEX] = kept,
+        Group::Xr => state[XR_INDEX] = kept,
+        Group::Fr => state[FR_INDEX] = kept,
+        Group::Mr => state[MR_INDEX] = kept,
         Group::Msr => {}
         Group::Palmask => {}
-        Group::Ar => state[2568] = kept,
+        Group::Ar => state[AR_INDEX] = kept,
     }
 }
 
@@ -154,7 +162,7 @@ fn read_from(state: &mut [u8], t: Target) -> u16
             done(get(state, g, i))
         }
         Target::ReadIndex => done(palstate(state)),
-        Target::WriteIndex => done(state[2569]),
+        Target::WriteIndex => done(state[INDEX]),
         Target::Paldata => {
             let v = paldata(state);
             move_on(state);

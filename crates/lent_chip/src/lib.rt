@@ -1,21 +1,24 @@
-// The chip on bytes that a caller lends: any 2,574 bytes are a state (specs/Layout says which byte is what),
-// and every access works on them in place. Document 01, "Ports" (the state) and "Registers" and "Palette";
-// document 02, P1, for the attribute registers. Here are the registers by name; then the palette: an entry is three
-// bytes from 1792 on, 2569 is the palette's index, 2570 the position, 2571 and 2572 are the bytes held at red and at
-// green; then port 3C0h: 2568 is the attribute index. The flags are bits of 2573: bit 0 says that the read index
-// was written last, bit 1 that data comes next at 3C0h, bit 2 that there is a picture. The other indexes and the
-// port accesses are in access.rt; registers and colours as a host asks for them are crate `lent_names`'s.
-// What is public takes bytes of any length, and refuses all but a state's.
+// The chip on bytes that a caller lends: any 1,057 bytes are a state (specs/Layout says which byte is what), and every
+// access works on them in place. Document 01, "Ports" (the state) and "Registers" and "Palette"; document 02, P1, for
+// the attribute registers, and P7: the listed registers stand in one row, and an unlisted index has no byte. Here are
+// the registers by name, then the palette, then port 3C0h. The other indexes and the port accesses are in access.rt;
+// registers and colours as a host asks for them are crate `lent_names`'s.
+// A port access takes bytes of any length, and refuses all but a state's.
 ghost use mathlib.Core.Path.{_≡_};
 ghost use Prim.Native.Nat.{_+_, _*_, _/_, _%_, _<_};
 ghost use mathlib.Core.Bool.{cond};
+ghost use lib.Dec.{eqb};
 ghost use lib.ListN.{length};
+ghost use Rattle.chip_registers.specs.Groups.{groupAt};
+ghost use Rattle.chip_registers.specs.WriteRule.{underLock};
 ghost use Rattle.chip.specs.State.{named, join, withNamed, withIndexes, withLoading, withTurn};
 ghost use Rattle.chip.specs.Names.{register, locked as lockedOf, received, portsOpen, picks3Dx, eightBit};
 ghost use Rattle.chip.specs.Palette.{byMode, coloured, aimed, held, moved, loaded, palstate as palstateOf, paldata as paldataOf};
 ghost use Rattle.chip.specs.Attribute.{attributeIndex, attributeAimed, attributeSet, attributeWritten};
-ghost use Rattle.lent_chip.specs.Layout.{start, whole, view, spare, regionOf, slotOf, placeOf, thirdOf, Holds};
-use chip_masks::writable;
+ghost use Rattle.chip_masks.specs.Table.{standingOf};
+ghost use Rattle.lent_chip.specs.Layout.{whole, PALETTE, view, spare, baseOf, placeOf, thirdOf, Holds};
+use chip_masks::standing_at;
+use chip_masks::writable_at;
 use chip_registers::Group;
 use chip_registers::index_kept;
 use chip_registers::locked_by;
@@ -24,56 +27,120 @@ use chip_registers::write;
 
 pub mod access;
 
+// Where a state's single bytes are. The flags are bits: bit 0 says that the read index was written last, bit 1 that
+// data comes next at 3C0h, bit 2 that there is a picture.
+const MSR: usize = 0;
+
+const PALMASK: usize = 1;
+
+const CR_INDEX: usize = 2;
+
+const SR_INDEX: usize = 3;
+
+const GR_INDEX: usize = 4;
+
+const XR_INDEX: usize = 5;
+
+const FR_INDEX: usize = 6;
+
+const MR_INDEX: usize = 7;
+
+const AR_INDEX: usize = 8;
+
+const INDEX: usize = 9;
+
+const POSITION: usize = 10;
+
+const RED: usize = 11;
+
+const GREEN: usize = 12;
+
+const FLAGS: usize = 13;
+
+// Where the palette starts, three bytes an entry, and where the row does.
+pub const PALETTE: usize = 14;
+
+const ROW: usize = 782;
+
+// The numbers of the groups. A group is named by its number where its place and its writable bits are looked up: crate
+// `chip_masks` says why.
+const CR_GROUP: u8 = 0;
+
+const SR_GROUP: u8 = 1;
+
+const GR_GROUP: u8 = 2;
+
+pub const XR_GROUP: u8 = 3;
+
+const FR_GROUP: u8 = 4;
+
+const MR_GROUP: u8 = 5;
+
+const MSR_GROUP: u8 = 6;
+
+pub const PALMASK_GROUP: u8 = 7;
+
+const AR_GROUP: u8 = 8;
+
 // Where the bytes of a group's registers start.
-fn base(g: Group) -> usize
-    ensures { λ r. ⌜ (r ≡ start (regionOf g) + slotOf g 0) × (r < whole) ⌝ }
+fn base(n: u8) -> usize
+    ensures { λ r. ⌜ (r ≡ baseOf (groupAt n)) × (r < whole) ⌝ }
 {
-    match g {
-        Group::Cr => 0,
-        Group::Sr => 256,
-        Group::Gr => 512,
-        Group::Xr => 768,
-        Group::Fr => 1024,
-        Group::Mr => 1280,
-        Group::Msr => 2560,
-        Group::Palmask => 2561,
-        Group::Ar => 1536,
+    match n {
+        0 => ROW,
+        1 => ROW + 44,
+        2 => ROW + 50,
+        3 => ROW + 59,
+        4 => ROW + 147,
+        5 => ROW + 199,
+        6 => MSR,
+        7 => PALMASK,
+        _ => ROW + 254,
     }
 }
 
-// How far from there a register's byte is: MSR and PALMASK are one byte each.
-fn offset(g: Group, i: u8) -> usize
-    ensures { λ r. ⌜ (r + slotOf g 0 ≡ slotOf g i) × (r < 256) ⌝ }
+// Where a register's byte is, from where it stands. An unlisted index stands nowhere: it leads to the group's first
+// byte, which it neither shows nor changes, so that no access has to branch.
+pub fn place(n: u8, i: u8, e: u8) -> usize
+    requires { ⌜ e ≡ standingOf (groupAt n) i ⌝ }
+    ensures { λ r. ⌜ (r ≡ placeOf (groupAt n) i) × (r < whole) ⌝ }
 {
-    let at = i as usize;
-    match g {
-        Group::Cr => at,
-        Group::Sr => at,
-        Group::Gr => at,
-        Group::Xr => at,
-        Group::Fr => at,
-        Group::Mr => at,
-        Group::Msr => 0,
-        Group::Palmask => 0,
-        Group::Ar => at,
-    }
+    base(n) + (e % 128) as usize
 }
 
-// Where a register's byte is.
-pub fn place(g: Group, i: u8) -> usize
-    ensures { λ r. ⌜ r ≡ placeOf g i ⌝ }
-    ensures { λ r. ⌜ r < whole ⌝ }
+// The byte at a register's place, as it shows: 00h at an unlisted index.
+fn shown_by(e: u8, b: u8) -> u8
+    ensures { λ r. ⌜ r ≡ cond (eqb (e / 128 % 2) 1) b 0 ⌝ }
 {
-    base(g) + offset(g, i)
+    if e / 128 % 2 == 1 { b } else { 0x00 }
 }
 
-// The byte of a register, by name.
+// The byte of a register, by the number of its group and its index.
+pub fn get_at(state: &[u8], n: u8, i: u8) -> u8
+    requires { ⌜ length (now state) ≡ whole ⌝ }
+    ensures { λ r. ⌜ r ≡ register (groupAt n) (named (view (now (state .entry)))) i ⌝ }
+{
+    let e = standing_at(n, i);
+    let at = place(n, i, e);
+    shown_by(e, state[at])
+}
+
+// The byte of a register, by name. Each group's number is written out, for the compiler.
 fn get(state: &[u8], g: Group, i: u8) -> u8
     requires { ⌜ length (now state) ≡ whole ⌝ }
     ensures { λ r. ⌜ r ≡ register g (named (view (now (state .entry)))) i ⌝ }
 {
-    let at = place(g, i);
-    state[at]
+    match g {
+        Group::Cr => get_at(state, CR_GROUP, i),
+        Group::Sr => get_at(state, SR_GROUP, i),
+        Group::Gr => get_at(state, GR_GROUP, i),
+        Group::Xr => get_at(state, XR_GROUP, i),
+        Group::Fr => get_at(state, FR_GROUP, i),
+        Group::Mr => get_at(state, MR_GROUP, i),
+        Group::Msr => get_at(state, MSR_GROUP, i),
+        Group::Palmask => get_at(state, PALMASK_GROUP, i),
+        Group::Ar => get_at(state, AR_GROUP, i),
+    }
 }
 
 // Whether a group's registers are under a lock.
@@ -81,18 +148,40 @@ fn locked(state: &[u8], g: Group) -> bool
     requires { ⌜ length (now state) ≡ whole ⌝ }
     ensures { λ r. ⌜ r ≡ lockedOf g (named (view (now (state .entry)))) ⌝ }
 {
-    locked_by(g, get(state, Group::Cr, 0x11), state[2573] / 4 % 2 == 1)
+    locked_by(g, get_at(state, CR_GROUP, 0x11), state[FLAGS] / 4 % 2 == 1)
 }
 
-// A register receives a byte, by name.
+// A register receives a byte, by the number of its group and its index, where `left` is what its
+// lock leaves open.
+fn put_at(state: &mut [u8], n: u8, i: u8, v: u8, left: u8)
+    requires { ⌜ length (now state) ≡ whole ⌝ }
+    requires { ⌜ left ≡ underLock (groupAt n) (lockedOf (groupAt n) (named (view (now state)))) i 0xFF ⌝ }
+    ensures { λ _. ⌜ Holds (now (state .exit)) (withNamed (view (now (state .entry))) (received (groupAt n) (named (view (now (state .entry)))) i v)) (spare (now (state .entry))) ⌝ }
+{
+    let e = standing_at(n, i);
+    let at = place(n, i, e);
+    let mask = writable_at(n, i) & left;
+    let old = state[at];
+    state[at] = write(old, v, mask);
+}
+
+// A register receives a byte, by name. Each group's number is written out, for the compiler.
 fn put(state: &mut [u8], g: Group, i: u8, v: u8)
     requires { ⌜ length (now state) ≡ whole ⌝ }
     ensures { λ _. ⌜ Holds (now (state .exit)) (withNamed (view (now (state .entry))) (received g (named (view (now (state .entry)))) i v)) (spare (now (state .entry))) ⌝ }
 {
-    let at = place(g, i);
-    let mask = under_lock(g, locked(state, g), i, writable(g, i));
-    let old = state[at];
-    state[at] = write(old, v, mask);
+    let left = under_lock(g, locked(state, g), i, 0xFF);
+    match g {
+        Group::Cr => put_at(state, CR_GROUP, i, v, left),
+        Group::Sr => put_at(state, SR_GROUP, i, v, left),
+        Group::Gr => put_at(state, GR_GROUP, i, v, left),
+        Group::Xr => put_at(state, XR_GROUP, i, v, left),
+        Group::Fr => put_at(state, FR_GROUP, i, v, left),
+        Group::Mr => put_at(state, MR_GROUP, i, v, left),
+        Group::Msr => put_at(state, MSR_GROUP, i, v, left),
+        Group::Palmask => put_at(state, PALMASK_GROUP, i, v, left),
+        Group::Ar => put_at(state, AR_GROUP, i, v, left),
+    }
 }
 
 // Whether the ports answer: pin CFG1.
@@ -100,7 +189,7 @@ fn is_open(state: &[u8]) -> bool
     requires { ⌜ length (now state) ≡ whole ⌝ }
     ensures { λ r. ⌜ r ≡ portsOpen (named (view (now (state .entry)))) ⌝ }
 {
-    get(state, Group::Xr, 0x70) / 2 % 2 == 1
+    get_at(state, XR_GROUP, 0x70) / 2 % 2 == 1
 }
 
 // Whether MSR bit 0 picks the CR pair at 3D4h and 3D5h.
@@ -108,7 +197,7 @@ fn picks_3dx(state: &[u8]) -> bool
     requires { ⌜ length (now state) ≡ whole ⌝ }
     ensures { λ r. ⌜ r ≡ picks3Dx (named (view (now (state .entry)))) ⌝ }
 {
-    get(state, Group::Msr, 0x00) % 2 == 1
+    get_at(state, MSR_GROUP, 0x00) % 2 == 1
 }
 
 // Whether the palette is in eight-bit mode: XR80 bit 7.
@@ -116,7 +205,7 @@ fn is_eight_bit(state: &[u8]) -> bool
     requires { ⌜ length (now state) ≡ whole ⌝ }
     ensures { λ r. ⌜ r ≡ eightBit (named (view (now (state .entry)))) ⌝ }
 {
-    get(state, Group::Xr, 0x80) / 128 % 2 == 1
+    get_at(state, XR_GROUP, 0x80) / 128 % 2 == 1
 }
 
 // A component as a mode stores and reads it: whole, or modulo 64.
@@ -170,9 +259,9 @@ fn third(position: u8) -> usize
 
 // Where a component of an entry is.
 fn colour_place(e: u8, position: u8) -> usize
-    ensures { λ r. ⌜ (r ≡ 1792 + 3 * e + thirdOf position) × (r < whole) ⌝ }
+    ensures { λ r. ⌜ (r ≡ PALETTE + 3 * e + thirdOf position) × (r < whole) ⌝ }
 {
-    1792 + 3 * (e as usize) + third(position)
+    PALETTE + 3 * (e as usize) + third(position)
 }
 
 // Either index is written.
@@ -180,10 +269,10 @@ fn aim(state: &mut [u8], v: u8, reading: bool)
     requires { ⌜ length (now state) ≡ whole ⌝ }
     ensures { λ _. ⌜ Holds (now (state .exit)) (withLoading (view (now (state .entry))) (aimed (view (now (state .entry)) .loading) v reading)) (spare (now (state .entry))) ⌝ }
 {
-    state[2569] = v;
-    state[2570] = 0;
-    let old = state[2573];
-    state[2573] = with_reading(old, reading);
+    state[INDEX] = v;
+    state[POSITION] = 0;
+    let old = state[FLAGS];
+    state[FLAGS] = with_reading(old, reading);
 }
 
 // The position moves on, and after blue the index.
@@ -191,15 +280,15 @@ fn move_on(state: &mut [u8])
     requires { ⌜ length (now state) ≡ whole ⌝ }
     ensures { λ _. ⌜ Holds (now (state .exit)) (withLoading (view (now (state .entry))) (moved (view (now (state .entry)) .loading))) (spare (now (state .entry))) ⌝ }
 {
-    let p = state[2570];
+    let p = state[POSITION];
     if p == 2 {
-        let i = state[2569];
-        state[2569] = std::num::wrapping_add_u8(i, 1);
-        state[2570] = 0;
+        let i = state[INDEX];
+        state[INDEX] = std::num::wrapping_add_u8(i, 1);
+        state[POSITION] = 0;
     } else if p == 1 {
-        state[2570] = 2;
+        state[POSITION] = 2;
     } else {
-        state[2570] = 1;
+        state[POSITION] = 1;
     }
 }
 
@@ -209,7 +298,7 @@ fn put_colour(state: &mut [u8], e: u8, red: u8, green: u8, blue: u8)
     ensures { λ _. ⌜ Holds (now (state .exit)) (withNamed (view (now (state .entry))) (coloured (named (view (now (state .entry)))) e red green blue)) (spare (now (state .entry))) ⌝ }
 {
     let eight = is_eight_bit(state);
-    let at = 1792 + 3 * (e as usize);
+    let at = PALETTE + 3 * (e as usize);
     state[at] = by_mode(eight, red);
     state[at + 1] = by_mode(eight, green);
     state[at + 2] = by_mode(eight, blue);
@@ -220,16 +309,16 @@ fn hold(state: &mut [u8], v: u8)
     requires { ⌜ length (now state) ≡ whole ⌝ }
     ensures { λ _. ⌜ Holds (now (state .exit)) (join (loaded (named (view (now (state .entry)))) (view (now (state .entry)) .loading) v) (view (now (state .entry)) .indexes) (held (view (now (state .entry)) .loading) v)) (spare (now (state .entry))) ⌝ }
 {
-    let p = state[2570];
+    let p = state[POSITION];
     if p == 2 {
-        let e = state[2569];
-        let red = state[2571];
-        let green = state[2572];
+        let e = state[INDEX];
+        let red = state[RED];
+        let green = state[GREEN];
         put_colour(state, e, red, green, v);
     } else if p == 1 {
-        state[2572] = v;
+        state[GREEN] = v;
     } else {
-        state[2571] = v;
+        state[RED] = v;
     }
 }
 
@@ -247,7 +336,7 @@ fn palstate(state: &[u8]) -> u8
     requires { ⌜ length (now state) ≡ whole ⌝ }
     ensures { λ r. ⌜ r ≡ palstateOf (view (now (state .entry)) .loading) ⌝ }
 {
-    if state[2573] % 2 == 1 { 0x03 } else { 0x00 }
+    if state[FLAGS] % 2 == 1 { 0x03 } else { 0x00 }
 }
 
 // What PALDATA reads: the component at the position, by the mode of this moment.
@@ -256,7 +345,7 @@ fn paldata(state: &[u8]) -> u8
     ensures { λ r. ⌜ r ≡ paldataOf (named (view (now (state .entry)))) (view (now (state .entry)) .loading) ⌝ }
 {
     let eight = is_eight_bit(state);
-    let at = colour_place(state[2569], state[2570]);
+    let at = colour_place(state[INDEX], state[POSITION]);
     by_mode(eight, state[at])
 }
 
@@ -265,8 +354,8 @@ fn attribute_index(state: &[u8]) -> u8
     requires { ⌜ length (now state) ≡ whole ⌝ }
     ensures { λ r. ⌜ r ≡ attributeIndex (view (now (state .entry))) ⌝ }
 {
-    let low = index_kept(Group::Ar, state[2568]);
-    if state[2573] / 4 % 2 == 1 {
+    let low = index_kept(Group::Ar, state[AR_INDEX]);
+    if state[FLAGS] / 4 % 2 == 1 {
         low + 0x20
     } else {
         low
@@ -278,8 +367,8 @@ fn set_turn(state: &mut [u8], turn: bool)
     requires { ⌜ length (now state) ≡ whole ⌝ }
     ensures { λ _. ⌜ Holds (now (state .exit)) (withIndexes (view (now (state .entry))) (withTurn (view (now (state .entry)) .indexes) turn)) (spare (now (state .entry))) ⌝ }
 {
-    let old = state[2573];
-    state[2573] = with_turn(old, turn);
+    let old = state[FLAGS];
+    state[FLAGS] = with_turn(old, turn);
 }
 
 // The attribute index is written: data comes next.
@@ -287,9 +376,9 @@ fn aim_attribute(state: &mut [u8], v: u8)
     requires { ⌜ length (now state) ≡ whole ⌝ }
     ensures { λ _. ⌜ Holds (now (state .exit)) (attributeAimed (view (now (state .entry))) v) (spare (now (state .entry))) ⌝ }
 {
-    state[2568] = index_kept(Group::Ar, v);
-    let old = state[2573];
-    state[2573] = with_picture(old, v / 32 % 2 == 1);
+    state[AR_INDEX] = index_kept(Group::Ar, v);
+    let old = state[FLAGS];
+    state[FLAGS] = with_picture(old, v / 32 % 2 == 1);
     set_turn(state, true);
 }
 
@@ -298,8 +387,9 @@ fn set_attribute(state: &mut [u8], v: u8)
     requires { ⌜ length (now state) ≡ whole ⌝ }
     ensures { λ _. ⌜ Holds (now (state .exit)) (attributeSet (view (now (state .entry))) v) (spare (now (state .entry))) ⌝ }
 {
-    let i = index_kept(Group::Ar, state[2568]);
-    put(state, Group::Ar, i, v);
+    let i = index_kept(Group::Ar, state[AR_INDEX]);
+    let left = under_lock(Group::Ar, locked(state, Group::Ar), i, 0xFF);
+    put_at(state, AR_GROUP, i, v, left);
     set_turn(state, false);
 }
 
@@ -308,7 +398,7 @@ fn write_attribute(state: &mut [u8], v: u8)
     requires { ⌜ length (now state) ≡ whole ⌝ }
     ensures { λ _. ⌜ Holds (now (state .exit)) (attributeWritten (view (now (state .entry))) v) (spare (now (state .entry))) ⌝ }
 {
-    if state[2573] / 2 % 2 == 1 {
+    if state[FLAGS] / 2 % 2 == 1 {
         set_attribute(state, v);
     } else {
         aim_attribute(state, v);

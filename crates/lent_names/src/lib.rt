@@ -6,15 +6,16 @@
 ghost use mathlib.Core.Path.{_≡_};
 ghost use lib.ListN.{length};
 ghost use Rattle.chip.specs.State.{named};
-ghost use Rattle.chip.specs.Names.{register, eightBit};
+ghost use Rattle.chip.specs.Names.{eightBit};
 ghost use Rattle.chip.specs.Palette.{bright as brightOf, entry as entryAt, shown as shownOf};
 ghost use Rattle.lent_chip.specs.Layout.{whole, view};
 ghost use Rattle.lent_names.specs.Answers.{registerAnswer, entryAnswer, pixelAnswer};
 use chip::Rgb;
-use chip_registers::Group;
-use chip_registers::group_at;
+use lent_chip::PALETTE;
+use lent_chip::PALMASK_GROUP;
+use lent_chip::XR_GROUP;
 use lent_chip::access::STATE;
-use lent_chip::place;
+use lent_chip::get_at;
 
 // What is answered of a register.
 pub enum Register {
@@ -32,21 +33,12 @@ pub enum Colour {
     Length,
 }
 
-// The byte of a state's register.
-fn get(state: &[u8], g: Group, i: u8) -> u8
-    requires { ⌜ length (now state) ≡ whole ⌝ }
-    ensures { λ r. ⌜ r ≡ register g (named (view (now (state .entry)))) i ⌝ }
-{
-    let at = place(g, i);
-    state[at]
-}
-
 // Whether a state's palette is in eight-bit mode: XR80 bit 7.
 fn is_eight_bit(state: &[u8]) -> bool
     requires { ⌜ length (now state) ≡ whole ⌝ }
     ensures { λ r. ⌜ r ≡ eightBit (named (view (now (state .entry)))) ⌝ }
 {
-    get(state, Group::Xr, 0x80) / 128 % 2 == 1
+    get_at(state, XR_GROUP, 0x80) / 128 % 2 == 1
 }
 
 // The entry of a state's palette at an index.
@@ -54,7 +46,7 @@ fn entry(state: &[u8], e: u8) -> Rgb
     requires { ⌜ length (now state) ≡ whole ⌝ }
     ensures { λ r. ⌜ r ≡ entryAt (named (view (now (state .entry)))) e ⌝ }
 {
-    let at = 1792 + 3 * (e as usize);
+    let at = PALETTE + 3 * (e as usize);
     let red = state[at];
     let green = state[at + 1];
     let blue = state[at + 2];
@@ -74,7 +66,7 @@ fn shown(state: &[u8], pixel: u8) -> Rgb
     ensures { λ r. ⌜ r ≡ shownOf (named (view (now (state .entry)))) pixel ⌝ }
 {
     let eight = is_eight_bit(state);
-    let e = entry(state, pixel & get(state, Group::Palmask, 0x00));
+    let e = entry(state, pixel & get_at(state, PALMASK_GROUP, 0x00));
     let red = bright(eight, e.red);
     let green = bright(eight, e.green);
     let blue = bright(eight, e.blue);
@@ -91,7 +83,7 @@ pub fn register_of(state: &[u8], group: u8, index: u8) -> Register
     if group >= 9 {
         return Register::NoGroup;
     }
-    Register::Byte(get(state, group_at(group), index))
+    Register::Byte(get_at(state, group, index))
 }
 
 // The colour that an entry of the palette stores.

@@ -3,16 +3,20 @@
 // Whatever the bytes held, they hold afterwards the chip that crate `chip`'s reset gives, and their spare bits
 // (crate `lent_chip`, specs/Layout) are 0: a host need not clear the bytes before the first reset.
 ghost use mathlib.Core.Path.{_≡_};
-ghost use Prim.Native.Nat.{_<_};
 ghost use lib.ListN.{length};
-ghost use Rattle.chip_registers.specs.Groups.{tableAt};
+ghost use Rattle.chip_registers.specs.Groups.{groupAt};
 ghost use Rattle.chip.specs.Reset.{reset as resetOf};
 ghost use Rattle.lent_chip.specs.Layout.{whole, Holds};
 ghost use Rattle.lent_chip.specs.Accesses.{Left};
-ghost use Rattle.lent_reset.specs.Fresh.{freshByte, resetAnswer};
+ghost use Rattle.lent_reset.specs.Fresh.{Cleared, stored, resetAnswer};
 use chip::after_reset;
-use chip_registers::Group;
+use chip_masks::standing_at;
+use chip_registers::group_at;
 use lent_chip::access::STATE;
+use lent_chip::place;
+
+// How many names there are: nine groups, each with 256 indexes.
+const NAMES: usize = 2304;
 
 // What a reset answers.
 pub enum LentReset {
@@ -21,58 +25,41 @@ pub enum LentReset {
     Length,
 }
 
-// The group of a table.
-fn table_at(q: usize) -> Group
-    ensures { λ r. ⌜ r ≡ tableAt q ⌝ }
+// Every byte is 0.
+fn clear(state: &mut [u8])
+    requires { ⌜ length (now state) ≡ whole ⌝ }
+    ensures { λ _. ⌜ Cleared (now (state .exit)) ⌝ }
 {
-    if q == 0 {
-        return Group::Cr;
+    let mut k: usize = 0;
+    while k < STATE {
+        state[k] = 0;
+        k += 1;
     }
-    if q == 1 {
-        return Group::Sr;
-    }
-    if q == 2 {
-        return Group::Gr;
-    }
-    if q == 3 {
-        return Group::Xr;
-    }
-    if q == 4 {
-        return Group::Fr;
-    }
-    if q == 5 {
-        return Group::Mr;
-    }
-    if q == 6 {
-        return Group::Ar;
-    }
-    Group::Palmask
 }
 
-// Byte k of a state after a reset.
-fn fresh(k: usize, first: u8, second: u8) -> u8
-    ensures { λ r. ⌜ r ≡ freshByte first second k ⌝ }
+// A register's byte is stored where it stands; an unlisted index has no byte.
+fn store(state: &mut [u8], n: u8, i: u8, v: u8)
+    requires { ⌜ length (now state) ≡ whole ⌝ }
+    ensures { λ _. ⌜ now (state .exit) ≡ stored (now (state .entry)) (groupAt n) i v ⌝ }
 {
-    if k < 1792 {
-        return after_reset(table_at(k / 256), (k % 256) as u8, first, second);
+    let e = standing_at(n, i);
+    let at = place(n, i, e);
+    if e / 128 % 2 == 1 {
+        state[at] = v;
     }
-    if k == 2560 {
-        return after_reset(Group::Msr, 0x00, first, second);
-    }
-    if k == 2561 {
-        return after_reset(Group::Palmask, 0x00, first, second);
-    }
-    0
 }
 
-// Every byte of a state.
+// Every byte of a state: the registers by name, whatever their group, and 0 elsewhere.
 fn fill(state: &mut [u8], first: u8, second: u8)
     requires { ⌜ length (now state) ≡ whole ⌝ }
     ensures { λ _. ⌜ Holds (now (state .exit)) (resetOf first second) 0 ⌝ }
 {
+    clear(state);
     let mut k: usize = 0;
-    while k < STATE {
-        state[k] = fresh(k, first, second);
+    while k < NAMES {
+        let n = (k / 256) as u8;
+        let i = (k % 256) as u8;
+        store(state, n, i, after_reset(group_at(n), i, first, second));
         k += 1;
     }
 }

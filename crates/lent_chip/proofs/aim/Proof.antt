@@ -1,4 +1,5 @@
 -- Three stores.
+use Rattle.lent_chip.specs.Layout.{POSITION, INDEX}
 use Rattle.lent_chip.proofs.Holding.{as-it-is, then-single, then-reading}
 use borrow.Author.Needs.{needs}
 use native.Mathlib.Omega.{arith}
@@ -15,4 +16,4 @@ aim-spec =
     (λ c κs. search needs)
     (λ c. search needs)
     (λ c. search needs)
-    (λ c. then-reading (c .before .before .before .args .reading) (then-single 10 0 (then-single 9 (c .before .before .before .args .v) (as-it-is (c .before .before .before .pre)) (omega arith)) (omega arith)) (c .with-reading .ensures)))
+    (λ c. then-reading (c .before .before .before .args .reading) (then-single POSITION 0 (then-single INDEX (c .before .before .before .args .v) (as-it-is (c .before .before .before .pre)) (omega arith)) (omega arith)) (c .with-reading .ensures)))

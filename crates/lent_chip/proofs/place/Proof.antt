@@ -1,9 +1,8 @@
--- The group's start and the register's offset.
-use Prim.Native.Nat.{_<_, _+_}
-use Rattle.lent_chip.specs.Layout.{start, regionOf, slotOf, placeOf}
-use Rattle.lent_chip.proofs.Holding.{place-below}
-use borrow.Author.Needs.{needs}
+-- The group's start and the register's place from there.
 use native.Mathlib.Omega.{arith}
+use Rattle.lent_chip.specs.Layout.{placeOf}
+use Rattle.lent_chip.proofs.Stores.{place-below}
+use borrow.Author.Needs.{needs}
 use Rattle.lent_chip.proofs.place.Statement.{statement}
 use Rattle.lent_chip.proofs.place.Tie as tie
 
@@ -13,6 +12,6 @@ place-spec =
     tie.close
     (tie.spec
     (λ c κs. search needs)
-    (λ c κs. search needs)
     (λ c. search needs)
-    (λ c. let below : start (regionOf (c .before .before .args .g)) + slotOf (c .before .before .args .g) (c .before .before .args .i) < 2573 = place-below (c .before .before .args .g) (c .before .before .args .i) (omega arith) in (omega arith, omega arith)))
+    (λ c. omega (arith, c .base .ensures .1))
+    (λ c. (rw (c .base .ensures .0, c .before .pre), rw (c .base .ensures .0, c .before .pre) (place-below _ (c .before .args .i) (omega arith) (rw (c .base .ensures .0) at (c .base .ensures .1))))))

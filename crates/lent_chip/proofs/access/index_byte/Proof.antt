@@ -1,11 +1,12 @@
 -- By the group.
-use Rattle.lent_chip.specs.Layout.{view, cell}
+use Rattle.chip.specs.View.{view as shownBy}
+use Rattle.lent_chip.specs.Layout.{laid, view}
 use borrow.Author.Needs.{needs}
 use Rattle.lent_chip.proofs.access.index_byte.Statement.{statement}
 use Rattle.lent_chip.proofs.access.index_byte.Tie as tie
 
 pub index-byte-spec : {M : Type 1} → statement M
-unfolding view cell
+unfolding view shownBy laid
 index-byte-spec =
     tie.close
     (tie.spec

@@ -1,0 +1,29 @@
+-- The match is the table: each line is computed from the definition, and none that follows has a register.
+use native.Mathlib.Omega.{arith}
+use mathlib.Core.Path.{refl, sym}
+use lib.Dec.{eqb}
+use borrow.Author.Tests.{eqb-true}
+use Rattle.lists.specs.Scan.{every}
+use Rattle.lists.proofs.Scan.{every-at}
+use Rattle.chip_registers.specs.declared.Group.the-variants.{Sr}
+use Rattle.chip_registers.specs.Row.{linesOf, before, slotOf}
+use Rattle.chip_registers.specs.Groups.{tableAt}
+use Rattle.chip_registers.specs.CrtController.{CR}
+use Rattle.chip_registers.specs.Sequencer.{SR}
+use Rattle.chip_registers.specs.Graphics.{GR}
+use Rattle.chip_registers.specs.Extension.{XR}
+use Rattle.chip_registers.specs.FlatPanel.{FR}
+use Rattle.chip_registers.specs.Multimedia.{MR}
+use Rattle.chip_registers.specs.Attribute.{AR}
+use Rattle.chip_masks.specs.Table.{packed, lineOf, standingOf}
+use Rattle.chip_masks.proofs.LineLaws.{passed}
+use Rattle.chip_masks.proofs.sr_places.Statement.{statement}
+use Rattle.chip_masks.proofs.sr_places.Tie as tie
+
+pub sr-places-spec : {M : Type 1} → statement M
+unfolding lineOf packed every standingOf slotOf before linesOf tableAt CR SR GR XR FR MR AR
+sr-places-spec =
+    tie.close
+    (tie.spec
+    (λ c. rw (c .match .keys1))
+    (λ c. sym (eqb-true _ 0 (every-at (λ k. eqb (lineOf standingOf Sr k) 0) 1 31 refl (c .before .args .k) (passed _ 1 (c .match .rest)) (omega arith)))))
