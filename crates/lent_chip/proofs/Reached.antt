@@ -7,10 +7,9 @@ use mathlib.Core.List.{List}
 use lib.ListN.{length}
 use Rattle.chip_ports.specs.Ports.{target}
 use Rattle.chip_ports.specs.declared.Target.{Target}
-use Rattle.chip.specs.State.{named}
+use Rattle.chip.specs.State.{Chip, named}
 use Rattle.chip.specs.Names.{portsOpen, picks3Dx}
 use Rattle.chip.specs.Access.{portWritten, portRead, writeTo, readFrom}
-use Rattle.chip.specs.declared.Chip.{Chip}
 use Rattle.chip.proofs.Reached.{closed-write, closed-read, reached-write, reached-read}
 use Rattle.lent_chip.specs.Layout.{whole, view, Holds}
 use Rattle.lent_chip.specs.Accesses.{Left, WroteIn, ReadIn}

@@ -18,11 +18,11 @@ use Rattle.chip_registers.specs.declared.Group.{Group}
 use Rattle.chip_registers.specs.declared.Group.the-variants.{Cr, Sr, Gr, Xr, Fr, Mr, Msr, Palmask, Ar}
 use Rattle.chip_registers.proofs.RowLaws.{stands}
 use Rattle.chip_masks.specs.Table.{standing, standingOf}
-use Rattle.chip.specs.State.{named, join, withNamed}
+use Rattle.chip.specs.State.{Chip, named, join, withNamed}
 use Rattle.chip.specs.Names.{register}
 use Rattle.chip.specs.Palette.{rgb, entry, withPalette}
-use Rattle.chip.specs.View.{Kept, inRow, view as shownBy, withRow}
-use Rattle.chip.specs.declared.Chip.{Chip}
+use Rattle.chip.specs.View.{inRow, view as shownBy, withRow}
+use Rattle.chip.specs.declared.Chip.{Chip as Kept}
 use Rattle.chip.specs.declared.Rgb.{Rgb}
 use Rattle.chip.proofs.ViewLaws.{shown-at}
 use Rattle.lent_chip.specs.Layout.{MSR, PALMASK, CR-INDEX, SR-INDEX, GR-INDEX, XR-INDEX, FR-INDEX, MR-INDEX, AR-INDEX, INDEX, POSITION, RED, GREEN, FLAGS, PALETTE, ROW, whole, colourIn, laid, view, baseOf, placeOf}

@@ -12,8 +12,8 @@ use borrow.Author.Tests.{ltb-true, ltb-false, eqb-true, eqb-false}
 use Rattle.lists.proofs.Tab.{tab-at}
 use Rattle.chip_registers.specs.Row.{rowSize}
 use Rattle.chip.specs.Palette.{rgb}
-use Rattle.chip.specs.View.{Kept}
-use Rattle.chip.specs.declared.Chip.{Chip}
+use Rattle.chip.specs.declared.Chip.{Chip as Kept}
+use Rattle.chip.specs.State.{Chip}
 use Rattle.chip.specs.declared.Rgb.{Rgb}
 use Rattle.chip.proofs.ViewLaws.{view-decides}
 use Rattle.lent_chip.specs.Layout.{FLAGS, PALETTE, ROW, whole, colourIn, laid, view, spare, Holds}

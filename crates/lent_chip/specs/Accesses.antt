@@ -6,10 +6,8 @@ use mathlib.Core.Bool.{Bool}
 use mathlib.Core.List.{List}
 use lib.Dec.{eqb}
 use lib.ListN.{length}
-use Rattle.chip.specs.Access.{answerNumber}
-use Rattle.chip.specs.declared.Chip.{Chip}
-use Rattle.chip.specs.declared.access.Wrote.{Wrote}
-use Rattle.chip.specs.declared.access.Seen.{Seen}
+use Rattle.chip.specs.Access.{Seen, Wrote, answerNumber}
+use Rattle.chip.specs.State.{Chip}
 use Rattle.lent_chip.specs.Layout.{whole, spare, Holds}
 
 -- whether bytes are a state

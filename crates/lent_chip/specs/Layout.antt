@@ -15,8 +15,9 @@ use Rattle.chip_registers.specs.declared.Group.{Group}
 use Rattle.chip_registers.specs.declared.Group.the-variants.{Cr, Sr, Gr, Xr, Fr, Mr, Msr, Palmask, Ar}
 use Rattle.chip_masks.specs.Table.{standingOf}
 use Rattle.chip.specs.Palette.{rgb}
-use Rattle.chip.specs.View.{Kept, view as shownBy}
-use Rattle.chip.specs.declared.Chip.{Chip}
+use Rattle.chip.specs.View.{view as shownBy}
+use Rattle.chip.specs.declared.Chip.{Chip as Kept}
+use Rattle.chip.specs.State.{Chip}
 use Rattle.chip.specs.declared.Rgb.{Rgb}
 
 -- the single bytes: MSR and PALMASK, the seven indexes, the palette's index, its position, the bytes held at red and at green, and

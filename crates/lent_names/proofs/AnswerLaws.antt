@@ -14,11 +14,10 @@ use Rattle.chip_registers.specs.declared.Group.{Group}
 use Rattle.chip_registers.specs.declared.Group.the-variants.{Cr, Sr, Gr, Xr, Fr, Mr, Msr, Palmask, Ar}
 use Rattle.chip_registers.specs.declared.Row.the-variants.{Unlisted}
 use Rattle.chip_registers.proofs.TableLaws.{group-numbered}
-use Rattle.chip.specs.State.{named}
+use Rattle.chip.specs.State.{Chip, named}
 use Rattle.chip.specs.Names.{register}
 use Rattle.chip.specs.Palette.{entry, shown}
 use Rattle.chip.specs.Reach.{Reach}
-use Rattle.chip.specs.declared.Chip.{Chip}
 use Rattle.chip.specs.declared.Rgb.{Rgb}
 use Rattle.chip.proofs.ReachLaws.{unlisted-reads-00}
 use Rattle.lent_chip.specs.Layout.{whole, view, Holds}
