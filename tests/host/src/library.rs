@@ -37,7 +37,7 @@ mod raw {
     }
 }
 
-pub const STATE: usize = 2574;
+pub const STATE: usize = 1057;
 pub const NO_STATE: u8 = 255;
 
 pub fn reset(s: &mut [u8], first: u8, second: u8) -> u8 {
