@@ -129,8 +129,8 @@ open-bits g on i m h = go on
         ∙ (ap (λ (x : ℕ). bitAnd x (leftOpen g i % 256)) (sym low) ∙ (sym (and-mod m (leftOpen g i) 8) ∙ fewer))
     go false = and-mask m 8 ∙ omega arith
 
--- a register receives a byte: it is stored where the register stands, by the bits that can be written. An unlisted index has none,
--- so the byte to which it leads stays
+-- a register receives a byte: it is stored where the register stands, by the bits that can be written. An unlisted index has
+-- none, so the byte to which it leads stays
 module _ (l : List ℕ) (i v m : ℕ) (n : length l ≡ whole) (h : i < 256) where
   in-row : (g : Group) (k : ℕ) → slotOf g i ≡ At k → k < rowSize → m ≡ writableNow g (locked g (named (view l))) i
       → Holds (set l (ROW + k) (written (getD l (ROW + k) 0) v m)) (withNamed (view l) (received g (named (view l)) i v)) (spare l)

@@ -1,9 +1,9 @@
--- A store of one byte, as a change of what bytes keep, and so of the chip that they hold: a single byte, a place of the row, or the
--- three bytes of an entry. The regions follow one another, so each store leaves the other two as they were. Then where a
+-- A store of one byte, as a change of what bytes keep, and so of the chip that they hold: a single byte, a place of the row, or
+-- the three bytes of an entry. The regions follow one another, so each store leaves the other two as they were. Then where a
 -- register's byte is and what is read there, by name; the argument over the groups is crate `chip`'s (ViewLaws).
 use Prim.Native.Nat.{ℕ, _+_, _*_, _/_, _%_, _-_, _<_, _≤_}
 use mathlib.Core.Path.{_≡_, refl, ap, _∙_, sym}
-use mathlib.Core.Bool.{Bool, true, false, cond}
+use mathlib.Core.Bool.{Bool, true, false, cond, true≢false}
 use mathlib.Core.List.{List}
 use lib.Dec.{eqb}
 use lib.ListN.{getD, set, length, length-set}
@@ -288,31 +288,48 @@ pub data Where (g : Group) (i : ℕ) : Type 0 where
 low-high : (d : ℕ) → d < 128 → ((128 + d) % 128 ≡ d) × ((128 + d) / 128 % 2 ≡ 1)
 low-high d h = let half : (128 + d) / 128 ≡ 1 = omega arith in (omega arith, rw half (omega arith))
 
-in-row : (g : Group) (i : ℕ) → i < 256 → isIndexed g ≡ true → baseOf g ≡ ROW + before g → Where g i
-unfolding placeOf standingOf
-in-row g i h x b = go (slotOf g i) refl
-  where
-    stood : (s : Slot) → slotOf g i ≡ s → standingOf g i ≡ standing (before g) s
-    stood s e = rw (x, e)
+base-row : (g : Group) → isIndexed g ≡ true → baseOf g ≡ ROW + before g
+unfolding baseOf
+base-row Cr x = refl
+base-row Sr x = refl
+base-row Gr x = refl
+base-row Xr x = refl
+base-row Fr x = refl
+base-row Mr x = refl
+base-row Msr x = absurd (true≢false (sym x))
+base-row Palmask x = absurd (true≢false (sym x))
+base-row Ar x = refl
 
+stood : (g : Group) (i : ℕ) → isIndexed g ≡ true → (s : Slot) → slotOf g i ≡ s → standingOf g i ≡ standing (before g) s
+unfolding standingOf
+stood g i x s e = rw (x, e)
+
+-- a register of the row is at its place there, and stands
+pub placed : (g : Group) (i k : ℕ) → i < 256 → slotOf g i ≡ At k → (placeOf g i ≡ ROW + k) × (standingOf g i / 128 % 2 ≡ 1)
+unfolding placeOf
+placed g i k h e =
+    let s = stands g i k h e in
+    let (low, high) = low-high (k - before g) (omega (arith, s .from, s .near)) in
+    let z : standingOf g i ≡ 128 + (k - before g) = stood g i (s .listed) (At k) e in
+    (rw (base-row g (s .listed), z, low) (omega (arith, s .from)), rw z high)
+
+in-row : (g : Group) (i : ℕ) → i < 256 → isIndexed g ≡ true → Where g i
+in-row g i h x = go (slotOf g i) refl
+  where
     go : (s : Slot) → slotOf g i ≡ s → Where g i
-    go (At k) e =
-        let s = stands g i k h e in
-        let (low, high) = low-high (k - before g) (omega (arith, s .from, s .near)) in
-        InRow k e (s .within) (rw (b, stood (At k) e, low) (omega (arith, s .from))) (rw (stood (At k) e) high)
-    go Nowhere e = Unlisted x e (stood Nowhere e)
+    go (At k) e = let (p, q) = placed g i k h e in InRow k e (stands g i k h e .within) p q
+    go Nowhere e = Unlisted x e (stood g i x Nowhere e)
 
 pub where-is : (g : Group) (i : ℕ) → i < 256 → Where g i
-unfolding baseOf
-where-is Cr i h = in-row Cr i h refl refl
-where-is Sr i h = in-row Sr i h refl refl
-where-is Gr i h = in-row Gr i h refl refl
-where-is Xr i h = in-row Xr i h refl refl
-where-is Fr i h = in-row Fr i h refl refl
-where-is Mr i h = in-row Mr i h refl refl
+where-is Cr i h = in-row Cr i h refl
+where-is Sr i h = in-row Sr i h refl
+where-is Gr i h = in-row Gr i h refl
+where-is Xr i h = in-row Xr i h refl
+where-is Fr i h = in-row Fr i h refl
+where-is Mr i h = in-row Mr i h refl
 where-is Msr i h = IsMsr refl
 where-is Palmask i h = IsPalmask refl
-where-is Ar i h = in-row Ar i h refl refl
+where-is Ar i h = in-row Ar i h refl
 
 -- the place lies among the bytes
 pub place-below : (g : Group) (i : ℕ) → i < 256 → baseOf g < whole → placeOf g i < whole

@@ -20,9 +20,9 @@ use Rattle.chip.specs.declared.Chip.{Chip as Kept}
 use Rattle.chip.specs.State.{Chip}
 use Rattle.chip.specs.declared.Rgb.{Rgb}
 
--- the single bytes: MSR and PALMASK, the seven indexes, the palette's index, its position, the bytes held at red and at green, and
--- the flags: bit 0 says that the read index was written last (PALSTATE), bit 1 that data comes next at 3C0h, and bit 2 is bit 5 of
--- the attribute index, the picture
+-- the single bytes: MSR and PALMASK, the seven indexes, the palette's index, its position, the bytes held at red and at green,
+-- and the flags: bit 0 says that the read index was written last (PALSTATE), bit 1 that data comes next at 3C0h, and bit 2 is
+-- bit 5 of the attribute index, the picture
 abbrev pub MSR : ℕ
 MSR = 0
 

@@ -1,8 +1,8 @@
-// The chip on bytes that a caller lends: any 1,057 bytes are a state (specs/Layout says which byte is what), and every
-// access works on them in place. Document 01, "Ports" (the state) and "Registers" and "Palette"; document 02, P1, for
-// the attribute registers, and P7: the listed registers stand in one row, and an unlisted index has no byte. Here are
-// the registers by name, then the palette, then port 3C0h. The other indexes and the port accesses are in access.rt;
-// registers and colours as a host asks for them are crate `lent_names`'s.
+// The chip on bytes that a caller lends: any 1,057 bytes are a state (specs/Layout says which byte is what),
+// and every access works on them in place. Document 01, "Ports" (the state) and "Registers" and "Palette";
+// document 02, P1, for the attribute registers, and P7: the listed registers stand in one row, and an unlisted index
+// has no byte. Here are the registers by name, then the palette, then port 3C0h. The other indexes and the port
+// accesses are in access.rt; registers and colours as a host asks for them are crate `lent_names`'s.
 // A port access takes bytes of any length, and refuses all but a state's.
 ghost use mathlib.Core.Path.{_≡_};
 ghost use Prim.Native.Nat.{_+_, _*_, _/_, _%_, _<_};
@@ -62,8 +62,8 @@ pub const PALETTE: usize = 14;
 
 const ROW: usize = 782;
 
-// The numbers of the groups. A group is named by its number where its place and its writable bits are looked up: crate
-// `chip_masks` says why.
+// The numbers of the groups. A group is named by its number where its place and its writable bits are looked up:
+// crate `chip_masks` says why.
 const CR_GROUP: u8 = 0;
 
 const SR_GROUP: u8 = 1;
@@ -82,7 +82,8 @@ pub const PALMASK_GROUP: u8 = 7;
 
 const AR_GROUP: u8 = 8;
 
-// Where the bytes of a group's registers start.
+// Where the bytes of a group's registers start: MSR and PALMASK are one byte each, and in the row a group stands
+// behind those before it.
 fn base(n: u8) -> usize
     ensures { λ r. ⌜ (r ≡ baseOf (groupAt n)) × (r < whole) ⌝ }
 {
@@ -151,8 +152,7 @@ fn locked(state: &[u8], g: Group) -> bool
     locked_by(g, get_at(state, CR_GROUP, 0x11), state[FLAGS] / 4 % 2 == 1)
 }
 
-// A register receives a byte, by the number of its group and its index, where `left` is what its
-// lock leaves open.
+// A register receives a byte, by the number of its group and its index; `left` is what its lock leaves open.
 fn put_at(state: &mut [u8], n: u8, i: u8, v: u8, left: u8)
     requires { ⌜ length (now state) ≡ whole ⌝ }
     requires { ⌜ left ≡ underLock (groupAt n) (lockedOf (groupAt n) (named (view (now state)))) i 0xFF ⌝ }

@@ -17,10 +17,9 @@ use Rattle.chip_registers.proofs.TableLaws.{group-numbered}
 use Rattle.chip.specs.State.{Chip, named}
 use Rattle.chip.specs.Names.{register}
 use Rattle.chip.specs.Palette.{entry, shown}
-use Rattle.chip.specs.Reach.{Reach}
 use Rattle.chip.specs.declared.Rgb.{Rgb}
-use Rattle.chip.proofs.ReachLaws.{unlisted-reads-00}
-use Rattle.lent_chip.specs.Layout.{whole, view, Holds}
+use Rattle.chip.proofs.ViewLaws.{unlisted-shows-00}
+use Rattle.lent_chip.specs.Layout.{whole, laid, view, Holds}
 use Rattle.lent_names.specs.Answers.{registerAnswer, entryAnswer, pixelAnswer}
 use Rattle.lent_names.specs.Numbers.{ofRegister, registerWord, colourWord}
 use Rattle.lent_names.specs.declared.Register.{Register}
@@ -49,10 +48,10 @@ module _ {l : List ℕ} {c : Chip} {bits : ℕ} (h : Holds l c bits) where
   pub pixel-held : (p : ℕ) → pixelAnswer l p ≡ Given (shown (named c) p)
   pixel-held p = rw (eq-eqb _ _ (h .size), h .chip)
 
-  -- in a reached state an unlisted index reads 00h
-  pub unlisted-held : {first second : ℕ} → first < 0x100 → second < 0x100 → Reach first second c → (g : Group) (i : ℕ) → i < 0x100
-      → rowOf g i ≡ Unlisted → registerAnswer l (numberOf g) i ≡ Byte 0x00
-  unlisted-held hp hq r g i hi none = register-held g i ∙ ap Byte (unlisted-reads-00 hp hq r g i hi none)
+  -- an unlisted index reads 00h, in every state
+  pub unlisted-held : (g : Group) (i : ℕ) → i < 0x100 → rowOf g i ≡ Unlisted → registerAnswer l (numberOf g) i ≡ Byte 0x00
+  unfolding view
+  unlisted-held g i hi none = register-held g i ∙ ap Byte (rw (← h .chip) (unlisted-shows-00 g (laid l) i hi none))
 
 -- MSR, group 6, and PALMASK, group 7, whatever the index
 pub MSR-whatever-index : (l : List ℕ) (i j : ℕ) → registerAnswer l 6 i ≡ registerAnswer l 6 j

@@ -1,22 +1,35 @@
--- Bytes that are a reset's one by one hold the chip that `reset` gives: each table by its elements, the palette and the rest by
--- 0.
-use Prim.Native.Nat.{ℕ, zero, suc, _+_, _*_, _/_, _%_, _<_, _≤_}
-use mathlib.Core.Path.{_≡_, refl, ap, _∙_}
-use mathlib.Core.Bool.{Bool, true, false}
+-- Bytes that are 0 but for the registers' reset bytes where they stand keep what crate `chip` keeps of the state that `reset`
+-- gives, and so hold that state: it is reached, and shown by what is kept of it (ViewLaws of crate `chip`).
+use Prim.Native.Nat.{ℕ, zero, suc, _+_, _*_, _-_, _/_, _%_, _<_, _≤_}
+use mathlib.Core.Path.{_≡_, refl, ap, _∙_, sym}
+use mathlib.Core.Bool.{Bool, true, false, cond}
 use mathlib.Core.List.{List, _∷_}
-use lib.Dec.{eqb}
-use lib.ListN.{getD, length, replicate, set}
+use lib.Dec.{eqb, ltb}
+use lib.ListN.{getD, length, length-set, replicate, set}
 use lib.Seq.{getD-set-same, getD-set-other}
 use native.Mathlib.Omega.{arith}
-use borrow.Author.Tests.{lt-ltb, le-ltb, ne-eqb, eqb-true, eqb-false}
+use borrow.Author.Tests.{eqb-true, eqb-false, ne-eqb, ltb-true, le-ltb}
+use Rattle.lists.specs.Scan.{every}
 use Rattle.lists.specs.Tab.{tab}
 use Rattle.lists.proofs.Tab.{tab-same}
+use Rattle.chip_registers.specs.Groups.{numberOf, groupAt, rowOf}
+use Rattle.chip_registers.specs.Row.{rowSize}
+use Rattle.chip_registers.specs.declared.Group.{Group}
 use Rattle.chip_registers.specs.declared.Group.the-variants.{Msr, Palmask}
-use Rattle.chip_registers.specs.Groups.{tableAt}
+use Rattle.chip_registers.proofs.TableLaws.{group-numbered, every-group}
+use Rattle.chip_registers.proofs.RowLaws.{slot-one, groupOn, indexOn, index-on, each-slot}
+use Rattle.chip_masks.specs.Table.{standingOf}
+use Rattle.chip.specs.State.{named}
+use Rattle.chip.specs.Names.{register}
 use Rattle.chip.specs.Palette.{rgb}
+use Rattle.chip.specs.Reach.{fresh}
 use Rattle.chip.specs.Reset.{resetByte, reset}
-use Rattle.lent_chip.specs.Layout.{start, size, whole, cell, view, spare, Holds}
-use Rattle.lent_reset.specs.Fresh.{freshByte}
+use Rattle.chip.specs.View.{view as shownBy}
+use Rattle.chip.proofs.ResetLaws.{register-reset}
+use Rattle.chip.proofs.ViewLaws.{kept, reached-shown}
+use Rattle.lent_chip.specs.Layout.{MSR, PALMASK, CR-INDEX, SR-INDEX, GR-INDEX, XR-INDEX, FR-INDEX, MR-INDEX, AR-INDEX, INDEX, POSITION, RED, GREEN, FLAGS, PALETTE, ROW, whole, colourIn, laid, view, spare, baseOf, placeOf, Holds}
+use Rattle.lent_chip.proofs.Stores.{Where, InRow, IsMsr, IsPalmask, Unlisted, where-is, placed}
+use Rattle.lent_reset.specs.Fresh.{Cleared, stored}
 
 -- a list of one thing
 tab-one : {A : Type 0} (x : A) (n : ℕ) → tab (λ (k : ℕ). x) n ≡ replicate n x
@@ -24,88 +37,182 @@ unfolding tab
 tab-one x zero = refl
 tab-one x (suc n) = ap (_∷_ x) (tab-one x n)
 
--- one byte more
-pub each-next : (f : ℕ → ℕ) (l : List ℕ) (k v : ℕ) → k < length l → v ≡ f k → ((j : ℕ) → j < k → getD l j 0 ≡ f j) → (j : ℕ) → j < k + 1 → getD (set l k v) j 0 ≡ f j
-each-next f l k v h e each j w = go (eqb j k) refl
+-- one byte more is 0
+pub zero-next : (l : List ℕ) (k : ℕ) → k < length l → ((j : ℕ) → j < k → getD l j 0 ≡ 0) → (j : ℕ) → j < k + 1 → getD (set l k 0) j 0 ≡ 0
+zero-next l k h each j w = go (eqb j k) refl
   where
-    go : (z : Bool) → eqb j k ≡ z → getD (set l k v) j 0 ≡ f j
-    go true x = rw (eqb-true j k x) (getD-set-same l k v 0 h ∙ e)
-    go false x = let n = eqb-false j k x in getD-set-other l k j v 0 n ∙ each j (omega arith)
+    go : (z : Bool) → eqb j k ≡ z → getD (set l k 0) j 0 ≡ 0
+    go true x = rw (eqb-true j k x) (getD-set-same l k 0 0 h)
+    go false x = let n = eqb-false j k x in getD-set-other l k j 0 0 n ∙ each j (omega arith)
 
-module _ (first second : ℕ) (l : List ℕ) (n : length l ≡ whole) (each : (k : ℕ) → k < whole → getD l k 0 ≡ freshByte first second k) where
-  in-table : (q : ℕ) → q < 7 → (k : ℕ) → k < 256 → getD l (256 * q + k) 0 ≡ resetByte first second (tableAt q) k
-  unfolding freshByte
-  in-table q h k w =
-      let t : 256 * q + k < 1792 = omega arith in
-      let d : (256 * q + k) / 256 ≡ q = omega arith in
-      let m : (256 * q + k) % 256 ≡ k = omega arith in
-      each (256 * q + k) (omega arith) ∙ rw (lt-ltb (256 * q + k) 1792 t, d, m)
+-- ---- the byte of a place: of the register that stands there, and 0 where none does
+abbrev freshByte : ℕ → ℕ → ℕ → ℕ
+freshByte first second p =
+    cond (eqb p MSR) (resetByte first second Msr 0x00)
+    (cond (eqb p PALMASK) (resetByte first second Palmask 0x00)
+    (cond (ltb p ROW) 0 (resetByte first second (groupOn (p - ROW)) (indexOn (p - ROW)))))
 
-  nothing : (k : ℕ) → 1792 ≤ k → k < whole → (k ≡ 2560 → ⊥) → (k ≡ 2561 → ⊥) → getD l k 0 ≡ 0
-  unfolding freshByte
-  nothing k a b x y = each k b ∙ rw (le-ltb k 1792 a, ne-eqb k 2560 x, ne-eqb k 2561 y)
+module _ (first second : ℕ) where
+  fresh-row : (k : ℕ) → freshByte first second (ROW + k) ≡ resetByte first second (groupOn k) (indexOn k)
+  fresh-row k =
+      let back : ROW + k - ROW ≡ k = omega arith in
+      rw (ne-eqb (ROW + k) MSR (λ e. omega arith), ne-eqb (ROW + k) PALMASK (λ e. omega arith), le-ltb (ROW + k) ROW (omega arith), back)
 
-  -- a table, at a literal number
-  table : (q : ℕ) → q < 7 → start q ≡ 256 * q → size q ≡ 256 → tab (cell l q) 256 ≡ tab (resetByte first second (tableAt q)) 256
-  unfolding cell
-  table q h s z = tab-same (cell l q) (resetByte first second (tableAt q)) 256 (λ k w. rw (z, lt-ltb k 256 w, s) (in-table q h k w))
+  -- a register that stands has the byte of its place
+  stands-fresh : (g : Group) (i : ℕ) → i < 256 → standingOf g i / 128 % 2 ≡ 1 → resetByte first second g i ≡ freshByte first second (placeOf g i)
+  unfolding placeOf baseOf standingOf resetByte rowOf
+  stands-fresh g i h t = go (where-is g i h)
+    where
+      go : Where g i → resetByte first second g i ≡ freshByte first second (placeOf g i)
+      go (InRow k e w p q) =
+          let (u, v) = slot-one g (groupOn k) i (indexOn k) k h (index-on k) e (each-slot k w) in
+          ap (λ (d : Group). resetByte first second d i) u ∙ (ap (resetByte first second (groupOn k)) v ∙ (sym (fresh-row k) ∙ ap (freshByte first second) (sym p)))
+      go (IsMsr e) = rw e
+      go (IsPalmask e) = rw e
+      go (Unlisted x e z) = absurd (let y : 0 / 128 % 2 ≡ 1 = rw z at t in omega arith)
 
-  black : (e : ℕ) → e < 256 → rgb (cell l 7 (3 * e)) (cell l 7 (3 * e + 1)) (cell l 7 (3 * e + 2)) ≡ rgb 0 0 0
-  unfolding cell
-  black e h =
-      rw (
-        lt-ltb (3 * e) 768 (omega arith),
-        lt-ltb (3 * e + 1) 768 (omega arith),
-        lt-ltb (3 * e + 2) 768 (omega arith),
-        nothing (1792 + 3 * e) (omega arith) (omega arith) (λ x. omega arith) (λ x. omega arith),
-        nothing (1792 + (3 * e + 1)) (omega arith) (omega arith) (λ x. omega arith) (λ x. omega arith),
-        nothing (1792 + (3 * e + 2)) (omega arith) (omega arith) (λ x. omega arith) (λ x. omega arith),
-      )
+  -- ---- names by number: 256 times the number of the group, plus the index
+  abbrev Stood : ℕ → Type 0
+  Stood j = standingOf (groupAt (j / 256)) (j % 256) / 128 % 2 ≡ 1
 
-  zero-at : (k : ℕ) → 2561 < k → k < whole → getD l k 0 ≡ 0
-  zero-at k a b = nothing k (omega arith) b (λ x. omega arith) (λ x. omega arith)
+  abbrev at : ℕ → ℕ
+  at j = placeOf (groupAt (j / 256)) (j % 256)
 
-  msr-at : getD l 2560 0 ≡ resetByte first second Msr 0x00
-  unfolding freshByte
-  msr-at = each 2560 (omega arith)
+  -- the first n names are done
+  pub record Done (n : ℕ) (l : List ℕ) : Type 0 where
+    pub size : length l ≡ whole
+    pub zeros : (k : ℕ) → k < ROW → (k ≡ MSR → ⊥) → (k ≡ PALMASK → ⊥) → getD l k 0 ≡ 0
+    pub each : (j : ℕ) → j < n → Stood j → getD l (at j) 0 ≡ freshByte first second (at j)
 
-  palmask-at : getD l 2561 0 ≡ resetByte first second Palmask 0x00
-  unfolding freshByte
-  palmask-at = each 2561 (omega arith)
+  pub none-done : (l : List ℕ) → Cleared l → Done 0 l
+  none-done l c = record { size = c .size; zeros = λ k h x y. c .zeros k (omega arith); each = λ j h t. absurd (omega arith) }
 
-  pub fresh-view : view l ≡ reset first second
-  unfolding view cell reset tableAt
-  fresh-view = λ i. record {
-    cr = table 0 (omega arith) refl refl i;
-    sr = table 1 (omega arith) refl refl i;
-    gr = table 2 (omega arith) refl refl i;
-    xr = table 3 (omega arith) refl refl i;
-    fr = table 4 (omega arith) refl refl i;
-    mr = table 5 (omega arith) refl refl i;
-    ar = table 6 (omega arith) refl refl i;
-    msr = msr-at i;
-    palmask = palmask-at i;
-    picture = ap (λ (x : ℕ). eqb (x / 4 % 2) 1) (zero-at 2573 (omega arith) (omega arith)) i;
-    palette = (tab-same (λ e. rgb (cell l 7 (3 * e)) (cell l 7 (3 * e + 1)) (cell l 7 (3 * e + 2))) (λ e. rgb 0 0 0) 256 black ∙ tab-one (rgb 0 0 0) 256) i;
-    indexes = record {
-      cr = zero-at 2562 (omega arith) (omega arith) i;
-      sr = zero-at 2563 (omega arith) (omega arith) i;
-      gr = zero-at 2564 (omega arith) (omega arith) i;
-      xr = zero-at 2565 (omega arith) (omega arith) i;
-      fr = zero-at 2566 (omega arith) (omega arith) i;
-      mr = zero-at 2567 (omega arith) (omega arith) i;
-      ar = zero-at 2568 (omega arith) (omega arith) i;
-      turn = ap (λ (x : ℕ). eqb (x / 2 % 2) 1) (zero-at 2573 (omega arith) (omega arith)) i;
-    };
-    loading = record {
-      index = zero-at 2569 (omega arith) (omega arith) i;
-      position = zero-at 2570 (omega arith) (omega arith) i;
-      red = zero-at 2571 (omega arith) (omega arith) i;
-      green = zero-at 2572 (omega arith) (omega arith) i;
-      reading = ap (λ (x : ℕ). eqb (x % 2) 1) (zero-at 2573 (omega arith) (omega arith)) i;
-    };
-  }
+  -- a register that stands is at MSR, at PALMASK or in the row
+  elsewhere : (g : Group) (i k : ℕ) → i < 256 → standingOf g i / 128 % 2 ≡ 1 → k < ROW → (k ≡ MSR → ⊥) → (k ≡ PALMASK → ⊥) → k ≡ placeOf g i → ⊥
+  unfolding placeOf baseOf standingOf
+  elsewhere g i k h t w x y p = go (where-is g i h)
+    where
+      go : Where g i → ⊥
+      go (InRow m e b q s) = let z : k ≡ ROW + m = p ∙ q in omega arith
+      go (IsMsr e) = x (let z = rw e at p in z)
+      go (IsPalmask e) = y (let z = rw e at p in z)
+      go (Unlisted u e z) = let s : 0 / 128 % 2 ≡ 1 = rw z at t in omega arith
 
-  pub fresh-holds : Holds l (reset first second) 0
-  unfolding spare
-  fresh-holds = record { size = n; chip = fresh-view; spare = ap (λ (x : ℕ). x / 8) (zero-at 2573 (omega arith) (omega arith)) }
+  below : (g : Group) (i : ℕ) → i < 256 → standingOf g i / 128 % 2 ≡ 1 → placeOf g i < whole
+  unfolding placeOf baseOf standingOf
+  below g i h t = go (where-is g i h)
+    where
+      go : Where g i → placeOf g i < whole
+      go (InRow k e w p q) = rw p (omega arith)
+      go (IsMsr e) = rw e (omega arith)
+      go (IsPalmask e) = rw e (omega arith)
+      go (Unlisted x e z) = absurd (let s : 0 / 128 % 2 ≡ 1 = rw z at t in omega arith)
+
+  pub next-done : (n : ℕ) (l : List ℕ) → Done n l → n < 2304
+      → Done (n + 1) (stored l (groupAt (n / 256)) (n % 256) (resetByte first second (groupAt (n / 256)) (n % 256)))
+  next-done n l f h = go (eqb (standingOf (groupAt (n / 256)) (n % 256) / 128 % 2) 1) refl
+    where
+      earlier : (j : ℕ) → j < n + 1 → (j ≡ n → ⊥) → j < n
+      earlier j w d = omega arith
+
+      one : Stood n → resetByte first second (groupAt (n / 256)) (n % 256) ≡ freshByte first second (at n) → (j : ℕ) → j < n + 1 → Stood j
+          → (z : Bool) → eqb (at j) (at n) ≡ z → getD (set l (at n) (resetByte first second (groupAt (n / 256)) (n % 256))) (at j) 0 ≡ freshByte first second (at j)
+      one t v j w s true x =
+          let same : at j ≡ at n = eqb-true (at j) (at n) x in
+          rw same (getD-set-same l (at n) _ 0 (rw (f .size) (below (groupAt (n / 256)) (n % 256) (omega arith) t)) ∙ v)
+      one t v j w s false x =
+          let d : at j ≡ at n → ⊥ = eqb-false (at j) (at n) x in
+          getD-set-other l (at n) (at j) _ 0 d ∙ f .each j (earlier j w (λ e. d (ap at e))) s
+
+      go : (z : Bool) → eqb (standingOf (groupAt (n / 256)) (n % 256) / 128 % 2) 1 ≡ z
+          → Done (n + 1) (cond z (set l (at n) (resetByte first second (groupAt (n / 256)) (n % 256))) l)
+      go true y =
+          let t : Stood n = eqb-true _ 1 y in
+          let v : resetByte first second (groupAt (n / 256)) (n % 256) ≡ freshByte first second (at n) = stands-fresh (groupAt (n / 256)) (n % 256) (omega arith) t in
+          record {
+            size = length-set l (at n) _ ∙ f .size;
+            zeros = λ k w a b. getD-set-other l (at n) k _ 0 (elsewhere (groupAt (n / 256)) (n % 256) k (omega arith) t w a b) ∙ f .zeros k w a b;
+            each = λ j w s. one t v j w s (eqb (at j) (at n)) refl;
+          }
+      go false y = record {
+        size = f .size;
+        zeros = f .zeros;
+        each = λ j w s. f .each j (earlier j w (λ e. eqb-false _ 1 y (let u : Stood n = rw e at s in u))) s;
+      }
+
+  -- ---- all names are done
+  number-below : (g : Group) → numberOf g < 9
+  unfolding groupAt every
+  number-below g = ltb-true _ 9 (every-group (λ h. ltb (numberOf h) 9) refl g)
+
+  module _ (l : List ℕ) (f : Done 2304 l) where
+    -- a place of the row has a name, and so its byte
+    row-byte : (k : ℕ) → k < rowSize → getD l (ROW + k) 0 ≡ register (groupOn k) (named (reset first second)) (indexOn k)
+    row-byte k h =
+        let n = numberOf (groupOn k) in
+        let i = index-on k in
+        let b = number-below (groupOn k) in
+        let d : (256 * n + indexOn k) / 256 ≡ n = omega arith in
+        let m : (256 * n + indexOn k) % 256 ≡ indexOn k = omega arith in
+        let g : groupAt ((256 * n + indexOn k) / 256) ≡ groupOn k = ap groupAt d ∙ group-numbered (groupOn k) in
+        let (p, q) = placed (groupOn k) (indexOn k) k i (each-slot k h) in
+        let t : getD l (at (256 * n + indexOn k)) 0 ≡ freshByte first second (at (256 * n + indexOn k)) = f .each (256 * n + indexOn k) (omega arith) (rw (g, m) q) in
+        let u : getD l (ROW + k) 0 ≡ freshByte first second (ROW + k) = rw (g, m, p) at t in
+        u ∙ (fresh-row k ∙ sym (register-reset first second (groupOn k) (indexOn k) i))
+
+    msr-byte : getD l MSR 0 ≡ resetByte first second Msr 0x00
+    unfolding groupAt placeOf baseOf standingOf
+    msr-byte = f .each 1536 (omega arith) refl
+
+    palmask-byte : getD l PALMASK 0 ≡ resetByte first second Palmask 0x00
+    unfolding groupAt placeOf baseOf standingOf
+    palmask-byte = f .each 1792 (omega arith) refl
+
+    zero-at : (k : ℕ) → PALMASK < k → k < ROW → getD l k 0 ≡ 0
+    zero-at k a b = f .zeros k b (λ e. omega arith) (λ e. omega arith)
+
+    black : (e : ℕ) → e < 256 → colourIn l e ≡ rgb 0 0 0
+    black e h =
+        rw (
+          zero-at (PALETTE + 3 * e) (omega arith) (omega arith),
+          zero-at (PALETTE + (3 * e + 1)) (omega arith) (omega arith),
+          zero-at (PALETTE + (3 * e + 2)) (omega arith) (omega arith),
+        )
+
+    flag : (t : ℕ → Bool) → t (getD l FLAGS 0) ≡ t 0
+    flag t = ap t (zero-at FLAGS (omega arith) (omega arith))
+
+    all-laid : laid l ≡ kept (reset first second)
+    unfolding laid reset
+    all-laid = λ t. record {
+      row = tab-same (λ k. getD l (ROW + k) 0) (λ k. register (groupOn k) (named (reset first second)) (indexOn k)) rowSize row-byte t;
+      msr = msr-byte t;
+      palmask = palmask-byte t;
+      picture = flag (λ x. eqb (x / 4 % 2) 1) t;
+      palette = (tab-same (colourIn l) (λ e. rgb 0 0 0) 256 black ∙ tab-one (rgb 0 0 0) 256) t;
+      indexes = record {
+        cr = zero-at CR-INDEX (omega arith) (omega arith) t;
+        sr = zero-at SR-INDEX (omega arith) (omega arith) t;
+        gr = zero-at GR-INDEX (omega arith) (omega arith) t;
+        xr = zero-at XR-INDEX (omega arith) (omega arith) t;
+        fr = zero-at FR-INDEX (omega arith) (omega arith) t;
+        mr = zero-at MR-INDEX (omega arith) (omega arith) t;
+        ar = zero-at AR-INDEX (omega arith) (omega arith) t;
+        turn = flag (λ x. eqb (x / 2 % 2) 1) t;
+      };
+      loading = record {
+        index = zero-at INDEX (omega arith) (omega arith) t;
+        position = zero-at POSITION (omega arith) (omega arith) t;
+        red = zero-at RED (omega arith) (omega arith) t;
+        green = zero-at GREEN (omega arith) (omega arith) t;
+        reading = flag (λ x. eqb (x % 2) 1) t;
+      };
+    }
+
+    pub fresh-holds : first < 0x100 → second < 0x100 → Holds l (reset first second) 0
+    unfolding view spare
+    fresh-holds p q = record {
+      size = f .size;
+      chip = ap shownBy all-laid ∙ reached-shown p q fresh .chip;
+      spare = ap (λ (x : ℕ). x / 8) (zero-at FLAGS (omega arith) (omega arith));
+    }

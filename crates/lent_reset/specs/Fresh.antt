@@ -1,20 +1,25 @@
--- The bytes that a reset leaves, one by one. That they hold the chip that crate `chip`'s `reset` gives is the law `fresh-holds`.
-use Prim.Native.Nat.{ℕ, _/_, _%_}
+-- What a reset answers, and what it does on its way: every byte 0, then each register its reset byte where it stands.
+use Prim.Native.Nat.{ℕ, _/_, _%_, _<_}
+use mathlib.Core.Path.{_≡_}
 use mathlib.Core.Bool.{cond}
 use mathlib.Core.List.{List}
-use lib.Dec.{eqb, ltb}
-use Rattle.chip_registers.specs.Groups.{tableAt}
-use Rattle.chip_registers.specs.declared.Group.the-variants.{Msr, Palmask}
-use Rattle.chip.specs.Reset.{resetByte}
+use lib.Dec.{eqb}
+use lib.ListN.{getD, length, set}
+use Rattle.chip_registers.specs.declared.Group.{Group}
+use Rattle.chip_masks.specs.Table.{standingOf}
+use Rattle.lent_chip.specs.Layout.{whole, placeOf}
 use Rattle.lent_chip.specs.Accesses.{isState}
 use Rattle.lent_reset.specs.declared.LentReset.{LentReset}
 use Rattle.lent_reset.specs.declared.LentReset.the-variants.{Done, Length}
 
--- byte k: a register's reset byte in the tables, MSR's and PALMASK's behind the palette, and 0 elsewhere
-unfoldable pub freshByte : ℕ → ℕ → ℕ → ℕ
-freshByte first second k =
-    cond (ltb k 1792) (resetByte first second (tableAt (k / 256)) (k % 256))
-    (cond (eqb k 2560) (resetByte first second Msr 0x00) (cond (eqb k 2561) (resetByte first second Palmask 0x00) 0))
+-- a state whose bytes are all 0
+pub record Cleared (l : List ℕ) : Type 0 where
+  pub size : length l ≡ whole
+  pub zeros : (k : ℕ) → k < whole → getD l k 0 ≡ 0
+
+-- the bytes with a register's byte stored where it stands; an unlisted index stands nowhere
+abbrev pub stored : List ℕ → Group → ℕ → ℕ → List ℕ
+stored l g i v = cond (eqb (standingOf g i / 128 % 2) 1) (set l (placeOf g i) v) l
 
 abbrev pub resetAnswer : List ℕ → LentReset
 resetAnswer l = cond (isState l) Done Length

@@ -15,7 +15,7 @@ use chip_registers::group_at;
 use lent_chip::access::STATE;
 use lent_chip::place;
 
-// How many names there are: nine groups, each with 256 indexes.
+// How many names there are: nine groups, each with 256 indexes. MSR and PALMASK have the same byte under each.
 const NAMES: usize = 2304;
 
 // What a reset answers.
@@ -55,12 +55,12 @@ fn fill(state: &mut [u8], first: u8, second: u8)
     ensures { λ _. ⌜ Holds (now (state .exit)) (resetOf first second) 0 ⌝ }
 {
     clear(state);
-    let mut k: usize = 0;
-    while k < NAMES {
-        let n = (k / 256) as u8;
-        let i = (k % 256) as u8;
+    let mut name: usize = 0;
+    while name < NAMES {
+        let n = (name / 256) as u8;
+        let i = (name % 256) as u8;
         store(state, n, i, after_reset(group_at(n), i, first, second));
-        k += 1;
+        name += 1;
     }
 }
 

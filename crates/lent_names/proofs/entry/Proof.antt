@@ -5,7 +5,7 @@ use mathlib.Core.List.{List}
 use lib.ListN.{getD}
 use Rattle.chip.specs.State.{named}
 use Rattle.chip.specs.Palette.{rgb, entry}
-use Rattle.lent_chip.specs.Layout.{view}
+use Rattle.lent_chip.specs.Layout.{PALETTE, view}
 use Rattle.lent_chip.proofs.Stores.{get-colour}
 use borrow.Author.Needs.{needs}
 use native.Mathlib.Omega.{arith}
@@ -13,10 +13,10 @@ use Rattle.lent_names.proofs.entry.Statement.{statement}
 use Rattle.lent_names.proofs.entry.Tie as tie
 
 entry-at : (l : List ℕ) (e : ℕ) → e < 256
-    → entry (named (view l)) e ≡ rgb (getD l (1792 + 3 * e) 0) (getD l (1792 + 3 * e + 1) 0) (getD l (1792 + 3 * e + 2) 0)
+    → entry (named (view l)) e ≡ rgb (getD l (PALETTE + 3 * e) 0) (getD l (PALETTE + 3 * e + 1) 0) (getD l (PALETTE + 3 * e + 2) 0)
 entry-at l e h =
-    let x : 1792 + 3 * e + 1 ≡ 1792 + (3 * e + 1) = omega arith in
-    let y : 1792 + 3 * e + 2 ≡ 1792 + (3 * e + 2) = omega arith in
+    let x : PALETTE + 3 * e + 1 ≡ PALETTE + (3 * e + 1) = omega arith in
+    let y : PALETTE + 3 * e + 2 ≡ PALETTE + (3 * e + 2) = omega arith in
     rw (x, y) (get-colour l e h)
 
 pub entry-spec : {M : Type 1} → statement M

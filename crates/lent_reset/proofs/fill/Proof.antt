@@ -1,20 +1,17 @@
--- The loop's invariant: the first k bytes are a reset's.
-use Prim.Native.Nat.{ℕ, _-_, _<_, _≤_}
-use mathlib.Core.Path.{_≡_, _∙_}
-use lib.ListN.{getD, length, length-set}
+-- The loop's invariant: as many names as are counted have their reset bytes.
+use Prim.Native.Nat.{_-_, _≤_}
+use mathlib.Core.Path.{_≡_}
 use borrow.Author.Needs.{needs}
 use native.Mathlib.Omega.{arith}
-use Rattle.lent_chip.specs.Layout.{whole}
-use Rattle.lent_reset.specs.Fresh.{freshByte}
-use Rattle.lent_reset.proofs.Bytes.{each-next, fresh-holds}
+use Rattle.lent_reset.proofs.Bytes.{Done, none-done, next-done, fresh-holds}
 use Rattle.lent_reset.proofs.fill.Statement.{statement}
 use Rattle.lent_reset.proofs.fill.Tie as tie
 
 abbrev Inv-loop : tie.InvT-loop
-Inv-loop state₀ first second k₀ state k = (k ≤ whole) × (length state ≡ whole) × ((j : ℕ) → j < k → getD state j 0 ≡ freshByte first second j)
+Inv-loop state₀ first second name₀ state name = (name ≤ 2304) × Done first second name state
 
 abbrev μ-loop : tie.MeasureT-loop
-μ-loop state₀ first second k₀ state k = whole - k
+μ-loop state₀ first second name₀ state name = 2304 - name
 
 pub fill-spec : {M : Type 1} → statement M
 fill-spec =
@@ -22,18 +19,19 @@ fill-spec =
     (tie.spec
     Inv-loop
     μ-loop
-    (λ c. (omega arith, c .before .pre, λ j h. absurd (omega arith)))
     (λ c κs. search needs)
+    (λ c. (omega arith, none-done _ _ _ (c .before .before .clear .ensures)))
+    (λ c. search needs)
+    (λ c. search needs)
+    (λ c κs. search needs)
+    (λ c κs. search needs)
+    (λ c κs. c .before .before .before .before .loop .inv .1 .size)
     (λ c. omega arith)
     (λ c. omega arith)
-    (λ c. omega arith)
-    (λ c. let (_, size, done) = c .before .before .loop .inv in
-    let room : c .before .before .loop .k < length (c .before .before .loop .state) = omega arith in (
-      omega arith,
-      length-set (c .before .before .loop .state) (c .before .before .loop .k) _ ∙ size,
-      each-next _ (c .before .before .loop .state) (c .before .before .loop .k) _ room (c .fresh .ensures) done,
-    ))
-    (λ c. omega arith)
-    (λ c. let (_, size, done) = c .before .loop .inv in
-    let all : c .before .loop .k ≡ whole = omega arith in
-    fresh-holds _ _ (c .before .loop .state) size (rw all at done)))
+    (λ c. let s = c .before .before in
+    let at = s .before .before .before .before .before in
+    (omega arith, rw (s .store .ensures, s .before .after-reset .ensures, s .before .before .group-at .ensures) (next-done _ _ (at .loop .name) (at .loop .state) (at .loop .inv .1) (omega arith))))
+    (λ c. omega (arith, c .before .loop .inv .1 .size))
+    (λ c. let all : c .before .loop .name ≡ 2304 = omega arith in
+    let f = c .before .loop .inv .1 in
+    fresh-holds _ _ (c .before .loop .state) (rw all at f) (omega arith) (omega arith)))

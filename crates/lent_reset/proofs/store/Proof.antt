@@ -1,0 +1,16 @@
+-- By whether the register stands.
+use borrow.Author.Needs.{needs}
+use borrow.Author.Tests.{eq-eqb, ne-eqb}
+use Rattle.lent_reset.proofs.store.Statement.{statement}
+use Rattle.lent_reset.proofs.store.Tie as tie
+
+pub store-spec : {M : Type 1} → statement M
+store-spec =
+    tie.close
+    (tie.spec
+    (λ c κs. search needs)
+    (λ c κs. search needs)
+    (λ c. search needs)
+    (λ c. search needs)
+    (λ c. rw (c .before .place .ensures .0, ← c .before .before .standing-at .ensures, eq-eqb _ _ (c .if1 .taken)))
+    (λ c. rw (← c .before .before .standing-at .ensures, ne-eqb _ _ (c .if1 .left))))
