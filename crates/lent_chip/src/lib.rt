@@ -15,7 +15,6 @@ ghost use Rattle.chip.specs.State.{named, join, withNamed, withIndexes, withLoa
 ghost use Rattle.chip.specs.Names.{register, locked as lockedOf, received, portsOpen, picks3Dx, eightBit};
 ghost use Rattle.chip.specs.Palette.{byMode, coloured, aimed, held, moved, loaded, palstate as palstateOf, paldata as paldataOf};
 ghost use Rattle.chip.specs.Attribute.{attributeIndex, attributeAimed, attributeSet, attributeWritten};
-ghost use Rattle.chip_masks.specs.Table.{standingOf};
 ghost use Rattle.lent_chip.specs.Layout.{whole, PALETTE, view, spare, baseOf, placeOf, thirdOf, Holds};
 use chip_masks::standing_at;
 use chip_masks::writable_at;
@@ -100,13 +99,12 @@ fn base(n: u8) -> usize
     }
 }
 
-// Where a register's byte is, from where it stands. An unlisted index stands nowhere: it leads to the group's first
-// byte, which it neither shows nor changes, so that no access has to branch.
-pub fn place(n: u8, i: u8, e: u8) -> usize
-    requires { ⌜ e ≡ standingOf (groupAt n) i ⌝ }
+// Where a register's byte is, by the number of its group. An unlisted index stands nowhere: it leads to the group's
+// first byte, which it neither shows nor changes, so that no access has to branch.
+pub fn place(n: u8, i: u8) -> usize
     ensures { λ r. ⌜ (r ≡ placeOf (groupAt n) i) × (r < whole) ⌝ }
 {
-    base(n) + (e % 128) as usize
+    base(n) + (standing_at(n, i) % 128) as usize
 }
 
 // The byte at a register's place, as it shows: 00h at an unlisted index.
@@ -117,12 +115,12 @@ fn shown_by(e: u8, b: u8) -> u8
 }
 
 // The byte of a register, by the number of its group and its index.
-pub fn get_at(state: &[u8], n: u8, i: u8) -> u8
+fn get_at(state: &[u8], n: u8, i: u8) -> u8
     requires { ⌜ length (now state) ≡ whole ⌝ }
     ensures { λ r. ⌜ r ≡ register (groupAt n) (named (view (now (state .entry)))) i ⌝ }
 {
     let e = standing_at(n, i);
-    let at = place(n, i, e);
+    let at = place(n, i);
     shown_by(e, state[at])
 }
 
@@ -158,8 +156,7 @@ fn put_at(state: &mut [u8], n: u8, i: u8, v: u8, left: u8)
     requires { ⌜ left ≡ underLock (groupAt n) (lockedOf (groupAt n) (named (view (now state)))) i 0xFF ⌝ }
     ensures { λ _. ⌜ Holds (now (state .exit)) (withNamed (view (now (state .entry))) (received (groupAt n) (named (view (now (state .entry)))) i v)) (spare (now (state .entry))) ⌝ }
 {
-    let e = standing_at(n, i);
-    let at = place(n, i, e);
+    let at = place(n, i);
     let mask = writable_at(n, i) & left;
     let old = state[at];
     state[at] = write(old, v, mask);

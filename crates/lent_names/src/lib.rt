@@ -5,17 +5,19 @@
 // What is public takes bytes of any length, and refuses all but a state's; then a number that no group has.
 ghost use mathlib.Core.Path.{_≡_};
 ghost use lib.ListN.{length};
+ghost use Rattle.chip_registers.specs.Groups.{groupAt};
 ghost use Rattle.chip.specs.State.{named};
-ghost use Rattle.chip.specs.Names.{eightBit};
+ghost use Rattle.chip.specs.Names.{register, eightBit};
 ghost use Rattle.chip.specs.Palette.{bright as brightOf, entry as entryAt, shown as shownOf};
 ghost use Rattle.lent_chip.specs.Layout.{whole, view};
 ghost use Rattle.lent_names.specs.Answers.{registerAnswer, entryAnswer, pixelAnswer};
 use chip::Rgb;
+use chip_masks::standing_at;
 use lent_chip::PALETTE;
 use lent_chip::PALMASK_GROUP;
 use lent_chip::XR_GROUP;
 use lent_chip::access::STATE;
-use lent_chip::get_at;
+use lent_chip::place;
 
 // What is answered of a register.
 pub enum Register {
@@ -33,12 +35,22 @@ pub enum Colour {
     Length,
 }
 
+// The byte of a state's register, by the number of its group and its index.
+fn get(state: &[u8], n: u8, i: u8) -> u8
+    requires { ⌜ length (now state) ≡ whole ⌝ }
+    ensures { λ r. ⌜ r ≡ register (groupAt n) (named (view (now (state .entry)))) i ⌝ }
+{
+    let e = standing_at(n, i);
+    let at = place(n, i);
+    if e / 128 % 2 == 1 { state[at] } else { 0x00 }
+}
+
 // Whether a state's palette is in eight-bit mode: XR80 bit 7.
 fn is_eight_bit(state: &[u8]) -> bool
     requires { ⌜ length (now state) ≡ whole ⌝ }
     ensures { λ r. ⌜ r ≡ eightBit (named (view (now (state .entry)))) ⌝ }
 {
-    get_at(state, XR_GROUP, 0x80) / 128 % 2 == 1
+    get(state, XR_GROUP, 0x80) / 128 % 2 == 1
 }
 
 // The entry of a state's palette at an index.
@@ -66,7 +78,7 @@ fn shown(state: &[u8], pixel: u8) -> Rgb
     ensures { λ r. ⌜ r ≡ shownOf (named (view (now (state .entry)))) pixel ⌝ }
 {
     let eight = is_eight_bit(state);
-    let e = entry(state, pixel & get_at(state, PALMASK_GROUP, 0x00));
+    let e = entry(state, pixel & get(state, PALMASK_GROUP, 0x00));
     let red = bright(eight, e.red);
     let green = bright(eight, e.green);
     let blue = bright(eight, e.blue);
@@ -83,7 +95,7 @@ pub fn register_of(state: &[u8], group: u8, index: u8) -> Register
     if group >= 9 {
         return Register::NoGroup;
     }
-    Register::Byte(get_at(state, group, index))
+    Register::Byte(get(state, group, index))
 }
 
 // The colour that an entry of the palette stores.

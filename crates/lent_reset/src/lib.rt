@@ -43,7 +43,7 @@ fn store(state: &mut [u8], n: u8, i: u8, v: u8)
     ensures { λ _. ⌜ now (state .exit) ≡ stored (now (state .entry)) (groupAt n) i v ⌝ }
 {
     let e = standing_at(n, i);
-    let at = place(n, i, e);
+    let at = place(n, i);
     if e / 128 % 2 == 1 {
         state[at] = v;
     }

@@ -12,6 +12,9 @@ place-spec =
     tie.close
     (tie.spec
     (λ c κs. search needs)
+    (λ c κs. search needs)
     (λ c. search needs)
-    (λ c. omega (arith, c .base .ensures .1))
-    (λ c. (rw (c .base .ensures .0, c .before .pre), rw (c .base .ensures .0, c .before .pre) (place-below _ (c .before .args .i) (omega arith) (rw (c .base .ensures .0) at (c .base .ensures .1))))))
+    (λ c. omega (arith, c .before .base .ensures .1))
+    (λ c. let b = c .before .base .ensures in
+    let e = c .standing-at .ensures in
+    (rw (b .0, e), rw (b .0, e) (place-below _ (c .before .before .args .i) (omega arith) (rw (b .0) at (b .1))))))

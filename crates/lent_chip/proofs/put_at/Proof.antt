@@ -18,12 +18,11 @@ put-at-spec =
     (tie.spec
     (λ c κs. search needs)
     (λ c κs. search needs)
-    (λ c κs. search needs)
     (λ c. search needs)
     (λ c κs. search needs)
     (λ c. search needs)
     (λ c. search needs)
-    (λ c. let s = c .before .before .before .before .before .before in
+    (λ c. let s = c .before .before .before .before .before in
     let g = groupAt (s .args .n) in
     rw (c .write .ensures, c .before .before .before .place .ensures .0)
     (then-received (s .args .state .now) (s .args .i) (s .args .v) _ (s .pre .0) (omega arith) g

@@ -11,4 +11,4 @@ is-eight-bit-spec =
     tie.close
     (tie.spec
     (λ c κs. search needs)
-    (λ c. rw (c .get-at .ensures)))
+    (λ c. rw (c .get .ensures)))

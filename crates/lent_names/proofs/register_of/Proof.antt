@@ -11,4 +11,4 @@ register-of-spec =
     (λ c. rw (ne-eqb _ _ (c .if1 .taken)))
     (λ c. rw (eq-eqb _ _ (c .before .if1 .left), le-ltb _ _ (c .if2 .taken)))
     (λ c κs. search needs)
-    (λ c. rw (eq-eqb _ _ (c .before .before .if1 .left), lt-ltb _ _ (c .before .if2 .left), c .get-at .ensures)))
+    (λ c. rw (eq-eqb _ _ (c .before .before .if1 .left), lt-ltb _ _ (c .before .if2 .left), c .get .ensures)))

@@ -16,4 +16,4 @@ shown-spec =
     (λ c κs. search needs)
     (λ c κs. search needs)
     (λ c κs. search needs)
-    (λ c. rw (c .bright3 .ensures, c .before .bright2 .ensures, c .before .before .bright .ensures, c .before .before .before .entry .ensures, c .before .before .before .before .get-at .ensures, c .before .before .before .before .before .is-eight-bit .ensures)))
+    (λ c. rw (c .bright3 .ensures, c .before .bright2 .ensures, c .before .before .bright .ensures, c .before .before .before .entry .ensures, c .before .before .before .before .get .ensures, c .before .before .before .before .before .is-eight-bit .ensures)))
