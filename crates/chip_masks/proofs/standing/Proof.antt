@@ -10,4 +10,4 @@ standing-spec =
     (tie.spec
     (λ c κs. search needs)
     (λ c κs. search needs)
-    (λ c. rw (c .standing-at .ensures, c .before .number .ensures, group-numbered (c .before .before .args .g))))
+    (λ c. rw (c .entry-at .ensures .1, c .before .number .ensures, group-numbered (c .before .before .args .g))))

@@ -10,4 +10,4 @@ writable-spec =
     (tie.spec
     (λ c κs. search needs)
     (λ c κs. search needs)
-    (λ c. rw (c .writable-at .ensures, c .before .number .ensures, group-numbered (c .before .before .args .g))))
+    (λ c. rw (c .entry-at .ensures .0, c .before .number .ensures, group-numbered (c .before .before .args .g))))
