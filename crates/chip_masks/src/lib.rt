@@ -8,7 +8,7 @@
 // mask and the place come from one match: of two on one number the compiler makes a jump.
 ghost use mathlib.Core.Path.{_≡_};
 ghost use Prim.Native.Nat.{_-_, _*_, _/_, _%_, _^_, _<_};
-ghost use Rattle.chip_registers.specs.Groups.{numberOf, groupAt, writableOf};
+ghost use Rattle.chip_registers.specs.Groups.{groupAt, writableOf};
 ghost use Rattle.chip_masks.specs.Table.{lineOf, standingOf};
 use chip_registers::Group;
 
@@ -279,35 +279,51 @@ pub fn entry_at(n: u8, i: u8) -> Entry
     }
 }
 
-// The number of a group.
-fn number(g: Group) -> u8
-    ensures { λ r. ⌜ r ≡ numberOf g ⌝ }
+// One part of an entry.
+fn mask_at(n: u8, i: u8) -> u8
+    ensures { λ r. ⌜ r ≡ writableOf (groupAt n) i ⌝ }
 {
-    match g {
-        Group::Cr => 0,
-        Group::Sr => 1,
-        Group::Gr => 2,
-        Group::Xr => 3,
-        Group::Fr => 4,
-        Group::Mr => 5,
-        Group::Msr => 6,
-        Group::Palmask => 7,
-        Group::Ar => 8,
-    }
+    let e = entry_at(n, i);
+    e.writable
+}
+
+fn standing_at(n: u8, i: u8) -> u8
+    ensures { λ r. ⌜ r ≡ standingOf (groupAt n) i ⌝ }
+{
+    let e = entry_at(n, i);
+    e.standing
 }
 
 // The bits that a write can change, by group. As `chip_registers::writable`.
 pub fn writable(g: Group, i: u8) -> u8
     ensures { λ r. ⌜ r ≡ writableOf g i ⌝ }
 {
-    let e = entry_at(number(g), i);
-    e.writable
+    match g {
+        Group::Cr => mask_at(0, i),
+        Group::Sr => mask_at(1, i),
+        Group::Gr => mask_at(2, i),
+        Group::Xr => mask_at(3, i),
+        Group::Fr => mask_at(4, i),
+        Group::Mr => mask_at(5, i),
+        Group::Msr => mask_at(6, i),
+        Group::Palmask => mask_at(7, i),
+        Group::Ar => mask_at(8, i),
+    }
 }
 
 // Where a register stands, by group.
 pub fn standing(g: Group, i: u8) -> u8
     ensures { λ r. ⌜ r ≡ standingOf g i ⌝ }
 {
-    let e = entry_at(number(g), i);
-    e.standing
+    match g {
+        Group::Cr => standing_at(0, i),
+        Group::Sr => standing_at(1, i),
+        Group::Gr => standing_at(2, i),
+        Group::Xr => standing_at(3, i),
+        Group::Fr => standing_at(4, i),
+        Group::Mr => standing_at(5, i),
+        Group::Msr => standing_at(6, i),
+        Group::Palmask => standing_at(7, i),
+        Group::Ar => standing_at(8, i),
+    }
 }
