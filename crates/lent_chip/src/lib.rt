@@ -15,9 +15,9 @@ ghost use Rattle.chip.specs.State.{named, join, withNamed, withIndexes, withLoa
 ghost use Rattle.chip.specs.Names.{register, locked as lockedOf, received, portsOpen, picks3Dx, eightBit};
 ghost use Rattle.chip.specs.Palette.{byMode, coloured, aimed, held, moved, loaded, palstate as palstateOf, paldata as paldataOf};
 ghost use Rattle.chip.specs.Attribute.{attributeIndex, attributeAimed, attributeSet, attributeWritten};
+ghost use Rattle.chip_masks.specs.Table.{standingOf};
 ghost use Rattle.lent_chip.specs.Layout.{whole, PALETTE, view, spare, baseOf, placeOf, thirdOf, Holds};
-use chip_masks::standing_at;
-use chip_masks::writable_at;
+use chip_masks::entry_at;
 use chip_registers::Group;
 use chip_registers::index_kept;
 use chip_registers::locked_by;
@@ -99,19 +99,28 @@ fn base(n: u8) -> usize
     }
 }
 
-// Where a register's byte is, by the number of its group. An unlisted index stands nowhere: it leads to the group's
-// first byte, which it neither shows nor changes, so that no access has to branch.
+// Where a register's byte is, from where it stands. An unlisted index stands nowhere: it leads to the group's first
+// byte, which it neither shows nor changes, so that no access has to branch.
+fn place_from(n: u8, i: u8, standing: u8) -> usize
+    requires { ⌜ standing ≡ standingOf (groupAt n) i ⌝ }
+    ensures { λ r. ⌜ (r ≡ placeOf (groupAt n) i) × (r < whole) ⌝ }
+{
+    base(n) + (standing % 128) as usize
+}
+
+// The same, looked up.
 pub fn place(n: u8, i: u8) -> usize
     ensures { λ r. ⌜ (r ≡ placeOf (groupAt n) i) × (r < whole) ⌝ }
 {
-    base(n) + (standing_at(n, i) % 128) as usize
+    let e = entry_at(n, i);
+    place_from(n, i, e.standing)
 }
 
 // The byte at a register's place, as it shows: 00h at an unlisted index.
-fn shown_by(e: u8, b: u8) -> u8
-    ensures { λ r. ⌜ r ≡ cond (eqb (e / 128 % 2) 1) b 0 ⌝ }
+fn shown_by(standing: u8, b: u8) -> u8
+    ensures { λ r. ⌜ r ≡ cond (eqb (standing / 128 % 2) 1) b 0 ⌝ }
 {
-    if e / 128 % 2 == 1 { b } else { 0x00 }
+    if standing / 128 % 2 == 1 { b } else { 0x00 }
 }
 
 // The byte of a register, by the number of its group and its index.
@@ -119,9 +128,9 @@ fn get_at(state: &[u8], n: u8, i: u8) -> u8
     requires { ⌜ length (now state) ≡ whole ⌝ }
     ensures { λ r. ⌜ r ≡ register (groupAt n) (named (view (now (state .entry)))) i ⌝ }
 {
-    let e = standing_at(n, i);
-    let at = place(n, i);
-    shown_by(e, state[at])
+    let e = entry_at(n, i);
+    let at = place_from(n, i, e.standing);
+    shown_by(e.standing, state[at])
 }
 
 // The byte of a register, by name. Each group's number is written out, for the compiler.
@@ -156,8 +165,9 @@ fn put_at(state: &mut [u8], n: u8, i: u8, v: u8, left: u8)
     requires { ⌜ left ≡ underLock (groupAt n) (lockedOf (groupAt n) (named (view (now state)))) i 0xFF ⌝ }
     ensures { λ _. ⌜ Holds (now (state .exit)) (withNamed (view (now (state .entry))) (received (groupAt n) (named (view (now (state .entry)))) i v)) (spare (now (state .entry))) ⌝ }
 {
-    let at = place(n, i);
-    let mask = writable_at(n, i) & left;
+    let e = entry_at(n, i);
+    let at = place_from(n, i, e.standing);
+    let mask = e.writable & left;
     let old = state[at];
     state[at] = write(old, v, mask);
 }

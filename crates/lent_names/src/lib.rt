@@ -12,7 +12,7 @@ ghost use Rattle.chip.specs.Palette.{bright as brightOf, entry as entryAt, show
 ghost use Rattle.lent_chip.specs.Layout.{whole, view};
 ghost use Rattle.lent_names.specs.Answers.{registerAnswer, entryAnswer, pixelAnswer};
 use chip::Rgb;
-use chip_masks::standing_at;
+use chip_masks::entry_at;
 use lent_chip::PALETTE;
 use lent_chip::PALMASK_GROUP;
 use lent_chip::XR_GROUP;
@@ -40,9 +40,9 @@ fn get(state: &[u8], n: u8, i: u8) -> u8
     requires { ⌜ length (now state) ≡ whole ⌝ }
     ensures { λ r. ⌜ r ≡ register (groupAt n) (named (view (now (state .entry)))) i ⌝ }
 {
-    let e = standing_at(n, i);
+    let e = entry_at(n, i);
     let at = place(n, i);
-    if e / 128 % 2 == 1 { state[at] } else { 0x00 }
+    if e.standing / 128 % 2 == 1 { state[at] } else { 0x00 }
 }
 
 // Whether a state's palette is in eight-bit mode: XR80 bit 7.

@@ -10,7 +10,7 @@ ghost use Rattle.lent_chip.specs.Layout.{whole, Holds};
 ghost use Rattle.lent_chip.specs.Accesses.{Left};
 ghost use Rattle.lent_reset.specs.Fresh.{Cleared, stored, resetAnswer};
 use chip::after_reset;
-use chip_masks::standing_at;
+use chip_masks::entry_at;
 use chip_registers::group_at;
 use lent_chip::access::STATE;
 use lent_chip::place;
@@ -42,9 +42,9 @@ fn store(state: &mut [u8], n: u8, i: u8, v: u8)
     requires { ⌜ length (now state) ≡ whole ⌝ }
     ensures { λ _. ⌜ now (state .exit) ≡ stored (now (state .entry)) (groupAt n) i v ⌝ }
 {
-    let e = standing_at(n, i);
+    let e = entry_at(n, i);
     let at = place(n, i);
-    if e / 128 % 2 == 1 {
+    if e.standing / 128 % 2 == 1 {
         state[at] = v;
     }
 }

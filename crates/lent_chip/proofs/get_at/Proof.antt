@@ -16,4 +16,4 @@ get-at-spec =
     (λ c. search needs)
     (λ c κs. search needs)
     (λ c. let s = c .before .before .before .before .before in
-    rw (c .shown-by .ensures, c .before .before .place .ensures .0, c .before .before .before .standing-at .ensures) (sym (get-reg (groupAt (s .args .n)) (s .args .state .now) (s .args .i) (omega arith)))))
+    rw (c .shown-by .ensures, c .before .before .place-from .ensures .0, c .before .before .before .entry-at .ensures .1) (sym (get-reg (groupAt (s .args .n)) (s .args .state .now) (s .args .i) (omega arith)))))

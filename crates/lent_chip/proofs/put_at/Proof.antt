@@ -22,9 +22,9 @@ put-at-spec =
     (λ c κs. search needs)
     (λ c. search needs)
     (λ c. search needs)
-    (λ c. let s = c .before .before .before .before .before in
+    (λ c. let s = c .before .before .before .before .before .before in
     let g = groupAt (s .args .n) in
-    rw (c .write .ensures, c .before .before .before .place .ensures .0)
+    rw (c .write .ensures, c .before .before .before .place-from .ensures .0)
     (then-received (s .args .state .now) (s .args .i) (s .args .v) _ (s .pre .0) (omega arith) g
     (omega (arith, c .before .slice-known2 .given (placeOf g (s .args .i))))
-    (rw (c .before .before .writable-at .ensures, s .pre .1) (open-bits g (locked g (named (view (s .args .state .now)))) (s .args .i) _ (byte-rows g (s .args .i) .0))))))
+    (rw (c .before .before .before .before .entry-at .ensures .0, s .pre .1) (open-bits g (locked g (named (view (s .args .state .now)))) (s .args .i) _ (byte-rows g (s .args .i) .0))))))

@@ -14,9 +14,9 @@ get-spec =
     (λ c κs. search needs)
     (λ c κs. search needs)
     (λ c. search needs)
+    (λ c. let a = c .before .before .before .before .before .before .args in
+    let e = c .before .before .before .before .entry-at .ensures .1 in
+    rw (get-reg (groupAt (a .n)) (a .state .now) (a .i) (omega arith), ← e, eq-eqb _ _ (c .before .if1 .taken), c .before .before .before .place .ensures .0))
     (λ c. let a = c .before .before .before .before .before .args in
-    let e = c .before .before .before .standing-at .ensures in
-    rw (get-reg (groupAt (a .n)) (a .state .now) (a .i) (omega arith), ← e, eq-eqb _ _ (c .before .if1 .taken), c .before .before .place .ensures .0))
-    (λ c. let a = c .before .before .before .before .args in
-    let e = c .before .before .standing-at .ensures in
+    let e = c .before .before .before .entry-at .ensures .1 in
     rw (get-reg (groupAt (a .n)) (a .state .now) (a .i) (omega arith), ← e, ne-eqb _ _ (c .if1 .left))))

@@ -12,5 +12,5 @@ store-spec =
     (λ c κs. search needs)
     (λ c. search needs)
     (λ c. search needs)
-    (λ c. rw (c .before .place .ensures .0, ← c .before .before .standing-at .ensures, eq-eqb _ _ (c .if1 .taken)))
-    (λ c. rw (← c .before .before .standing-at .ensures, ne-eqb _ _ (c .if1 .left))))
+    (λ c. rw (c .before .before .place .ensures .0, ← c .before .before .before .entry-at .ensures .1, eq-eqb _ _ (c .if1 .taken)))
+    (λ c. rw (← c .before .before .before .entry-at .ensures .1, ne-eqb _ _ (c .if1 .left))))
