@@ -1,6 +1,6 @@
 -- Where a register stands in the row, as the code asks: a number below 275, or 275 for none. What the proofs of `place_of`, `get`,
 -- `put` and `fill` cite.
-use Prim.Native.Nat.{ℕ, zero, suc, _+_, _*_, _-_, _/_, _%_, _<_, _≤_}
+use Prim.Native.Nat.{ℕ, suc, _+_, _*_, _-_, _/_, _%_, _<_, _≤_}
 use native.Mathlib.Omega.{arith}
 use mathlib.Core.Bool.{Bool, true, false, cond, true≢false}
 use mathlib.Core.Path.{_≡_, refl, sym, ap, _∙_}
@@ -10,9 +10,8 @@ use lib.ListN.{getD, length, set}
 use lib.Seq.{getD-set-same, getD-set-other}
 use borrow.Author.Tests.{eqb-true, eqb-false, ltb-true, ltb-false}
 use Rattle.lists.specs.Scan.{every}
-use Rattle.lists.specs.Tab.{tab}
 use Rattle.lists.proofs.Tab.{tab-same}
-use Rattle.chip_registers.specs.Groups.{numberOf, groupAt, isIndexed, rowOf, resetOf}
+use Rattle.chip_registers.specs.Groups.{numberOf, groupAt, isIndexed}
 use Rattle.chip_registers.specs.Row.{Slot, At, Nowhere, before, slotOf, rowSize}
 use Rattle.chip_registers.specs.WriteRule.{writableNow, written}
 use Rattle.chip_registers.specs.declared.Group.{Group}
@@ -23,10 +22,10 @@ use Rattle.chip_masks.specs.Table.{standing, standingOf}
 use Rattle.chip.specs.State.{named, withNamed}
 use Rattle.chip.specs.Names.{register, locked, received}
 use Rattle.chip.specs.Reset.{resetByte}
-use Rattle.chip.specs.View.{inRow, tableFrom, view, withRow, numberAt, Filled}
+use Rattle.chip.specs.View.{inRow, view, numberAt, Filled}
 use Rattle.chip.specs.declared.Chip.{Chip as Kept}
 use Rattle.chip.proofs.ResetLaws.{reset-unlisted}
-use Rattle.chip.proofs.ViewLaws.{shown-at, received-at, received-nowhere}
+use Rattle.chip.proofs.ViewLaws.{withRow, shown-at, received-at, received-nowhere}
 
 at-inj : {j k : ℕ} → At j ≡ At k → j ≡ k
 at-inj e = ap numberAt e

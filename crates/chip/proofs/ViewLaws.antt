@@ -7,15 +7,13 @@ use mathlib.Core.Bool.{Bool, true, false, cond, not, _||_, _&&_, true≢false}
 use mathlib.Core.Path.{_≡_, refl, sym, ap, _∙_}
 use mathlib.Core.List.{List, [], _∷_}
 use lib.Bits.{and-zero-l}
-use lib.Dec.{eqb}
 use lib.ListN.{getD, length, set}
 use lib.Seq.{ext-getD, getD-set-same, getD-set-other}
-use borrow.Author.Tests.{eqb-false}
 use Rattle.lists.specs.Tab.{tab}
 use Rattle.lists.specs.Scan.{every}
 use Rattle.lists.proofs.Tab.{tab-length, tab-at, tab-same, tab-set, tab-is}
 use Rattle.lists.proofs.Tests.{and-both}
-use Rattle.chip_registers.specs.Groups.{groupAt, is, isIndexed, rowOf, writableIn, writableOf}
+use Rattle.chip_registers.specs.Groups.{groupAt, is, isIndexed, rowOf, writableIn}
 use Rattle.chip_registers.specs.Row.{Slot, At, Nowhere, slotOf, rowSize}
 use Rattle.chip_registers.specs.WriteRule.{leftOpen, underLock, writableNow, written}
 use Rattle.chip_registers.specs.declared.Row.{Row}
@@ -28,7 +26,7 @@ use Rattle.chip_registers.proofs.WriteLaws.{written-none}
 use Rattle.chip.specs.State.{Chip, Named, named, withNamed, withPicture}
 use Rattle.chip.specs.Names.{register, replaced, locked, received}
 use Rattle.chip.specs.Reach.{Reach}
-use Rattle.chip.specs.View.{inRow, tableFrom, view, withRow, Shows}
+use Rattle.chip.specs.View.{inRow, tableFrom, view, Shows}
 use Rattle.chip.specs.declared.Chip.{Chip as Kept}
 use Rattle.chip.proofs.Banks.{is-self}
 use Rattle.chip.proofs.ReachLaws.{unlisted-reads-00}
@@ -95,6 +93,18 @@ unfolding view
 loading-shown f = refl
 
 -- ---- a byte stored in the row
+
+-- what is kept, with another row
+abbrev pub withRow : Kept → List ℕ → Kept
+withRow k r = record {
+  row = r;
+  msr = k .msr;
+  palmask = k .palmask;
+  picture = k .picture;
+  palette = k .palette;
+  indexes = k .indexes;
+  loading = k .loading;
+}
 
 -- in its group's table that register's byte is replaced, and nothing in any other table
 module _ (r : List ℕ) (g : Group) (i k b : ℕ) (h : i < 256) (room : k < length r) (e : slotOf g i ≡ At k) where

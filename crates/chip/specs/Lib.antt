@@ -1,6 +1,6 @@
 -- What has to be believed of the chip, in the order to read it: its parts (State), a register by name (Names), the palette
--- (Palette), the attribute port (Attribute), port accesses (Access), the reset (Reset), and the states that accesses reach
--- (Reach).
+-- (Palette), the attribute port (Attribute), port accesses (Access), the reset (Reset), the states that accesses reach (Reach),
+-- and what is kept of a state (View).
 pub mod State
 pub mod Names
 pub mod Palette

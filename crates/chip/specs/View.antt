@@ -52,18 +52,6 @@ view k = record {
   loading = k .loading;
 }
 
--- the same with another row
-abbrev pub withRow : Kept → List ℕ → Kept
-withRow k r = record {
-  row = r;
-  msr = k .msr;
-  palmask = k .palmask;
-  picture = k .picture;
-  palette = k .palette;
-  indexes = k .indexes;
-  loading = k .loading;
-}
-
 -- what an access hands back, as it is shown
 abbrev pub viewWrote : KeptWrote → Wrote
 viewWrote w = wrote (w .answer) (view (w .chip))

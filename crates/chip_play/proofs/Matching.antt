@@ -1,7 +1,7 @@
 -- The theorem of specs/Matching, and that the contracts of the code are what it speaks of.
 use Prim.Native.Nat.{ℕ}
 use mathlib.Core.Path.{_≡_, refl, sym, ap, _∙_}
-use mathlib.Core.List.{List, [], _∷_}
+use mathlib.Core.List.{List}
 use lib.ListN.{length}
 use Rattle.chip_registers.specs.Row.{rowSize}
 use Rattle.chip.specs.State.{Chip}

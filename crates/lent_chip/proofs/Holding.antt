@@ -15,15 +15,15 @@ use Rattle.chip_registers.specs.Indexes.{indexKept}
 use Rattle.chip_registers.specs.Row.{At, Nowhere, slotOf, rowSize}
 use Rattle.chip_registers.specs.WriteRule.{leftOpen, underLock, writableNow, written}
 use Rattle.chip_registers.specs.declared.Group.{Group}
-use Rattle.chip_registers.specs.declared.Group.the-variants.{Cr, Sr, Gr, Xr, Fr, Mr, Msr, Palmask, Ar}
+use Rattle.chip_registers.specs.declared.Group.the-variants.{Msr, Palmask, Ar}
 use Rattle.chip_registers.proofs.WriteLaws.{written-none}
 use Rattle.chip_masks.specs.Table.{standingOf}
 use Rattle.chip.specs.State.{Chip, named, join, withNamed, withIndexes, withLoading, withPicture, withTurn}
 use Rattle.chip.specs.Names.{locked, received}
 use Rattle.chip.specs.Attribute.{attributeAimed}
 use Rattle.chip.specs.Palette.{rgb, entry, withPalette, component}
-use Rattle.chip.specs.View.{view as shownBy, withRow}
-use Rattle.chip.proofs.ViewLaws.{received-at, received-nowhere, none-writable}
+use Rattle.chip.specs.View.{view as shownBy}
+use Rattle.chip.proofs.ViewLaws.{withRow, received-at, received-nowhere, none-writable}
 use Rattle.lent_chip.specs.Layout.{MSR, PALMASK, AR-INDEX, INDEX, POSITION, FLAGS, PALETTE, ROW, whole, laid, view, spare, baseOf, placeOf, thirdOf, Holds}
 use Rattle.lent_chip.proofs.Flags.{below-two, tested, reading-put, turn-put, picture-put}
 use Rattle.lent_chip.proofs.Stores.{single, set-single, set-row, row-length, row-at, set-colour, get-colour, Where, InRow, IsMsr, IsPalmask, Unlisted, where-is}

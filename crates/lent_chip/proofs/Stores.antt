@@ -1,7 +1,7 @@
 -- A store of one byte, as a change of what bytes keep, and so of the chip that they hold: a single byte, a place of the row, or
 -- the three bytes of an entry. The regions follow one another, so each store leaves the other two as they were. Then where a
 -- register's byte is and what is read there, by name; the argument over the groups is crate `chip`'s (ViewLaws).
-use Prim.Native.Nat.{ℕ, _+_, _*_, _/_, _%_, _-_, _<_, _≤_}
+use Prim.Native.Nat.{ℕ, _+_, _*_, _/_, _%_, _-_, _<_}
 use mathlib.Core.Path.{_≡_, refl, ap, _∙_, sym}
 use mathlib.Core.Bool.{Bool, true, false, cond, true≢false}
 use mathlib.Core.List.{List}
@@ -21,10 +21,9 @@ use Rattle.chip_masks.specs.Table.{standing, standingOf}
 use Rattle.chip.specs.State.{Chip, named, join, withNamed}
 use Rattle.chip.specs.Names.{register}
 use Rattle.chip.specs.Palette.{rgb, entry, withPalette}
-use Rattle.chip.specs.View.{inRow, view as shownBy, withRow}
+use Rattle.chip.specs.View.{inRow, view as shownBy}
 use Rattle.chip.specs.declared.Chip.{Chip as Kept}
-use Rattle.chip.specs.declared.Rgb.{Rgb}
-use Rattle.chip.proofs.ViewLaws.{shown-at}
+use Rattle.chip.proofs.ViewLaws.{withRow, shown-at}
 use Rattle.lent_chip.specs.Layout.{MSR, PALMASK, CR-INDEX, SR-INDEX, GR-INDEX, XR-INDEX, FR-INDEX, MR-INDEX, AR-INDEX, INDEX, POSITION, RED, GREEN, FLAGS, PALETTE, ROW, whole, colourIn, laid, view, baseOf, placeOf}
 
 -- the regions follow one another and fill a state

@@ -42,7 +42,11 @@ fn get(state: &[u8], n: u8, i: u8) -> u8
 {
     let e = entry_at(n, i);
     let at = place(n, i);
-    if e.standing / 128 % 2 == 1 { state[at] } else { 0x00 }
+    if e.standing / 128 % 2 == 1 {
+        state[at]
+    } else {
+        0x00
+    }
 }
 
 // Whether a state's palette is in eight-bit mode: XR80 bit 7.

@@ -1,6 +1,6 @@
 -- Bytes that are 0 but for the registers' reset bytes where they stand keep what crate `chip` keeps of the state that `reset`
 -- gives, and so hold that state: it is reached, and shown by what is kept of it (ViewLaws of crate `chip`).
-use Prim.Native.Nat.{ℕ, zero, suc, _+_, _*_, _-_, _/_, _%_, _<_, _≤_}
+use Prim.Native.Nat.{ℕ, zero, suc, _+_, _*_, _-_, _/_, _%_, _<_}
 use mathlib.Core.Path.{_≡_, refl, ap, _∙_, sym}
 use mathlib.Core.Bool.{Bool, true, false, cond}
 use mathlib.Core.List.{List, _∷_}

@@ -1,9 +1,8 @@
 -- The loop's invariant: the names below n have their bytes.
 use Prim.Native.Nat.{ℕ, _≤_, _<_, _-_}
-use native.Mathlib.Numerals.{add-one}
 use native.Mathlib.Omega.{arith}
 use mathlib.Core.Logic.{⊎-elim}
-use mathlib.Core.Path.{_≡_, refl, _∙_, sym}
+use mathlib.Core.Path.{_≡_, refl, _∙_}
 use lib.ListN.{length, length-set}
 use Rattle.chip.proofs.Places.{Stored, stored, skipped, filled}
 use borrow.Author.Needs.{needs}

@@ -1,5 +1,4 @@
 -- By the group; the running counts are computed from the tables.
-use mathlib.Core.Path.{refl}
 use native.Mathlib.Omega.{arith}
 use borrow.Author.Needs.{needs}
 use Rattle.chip_registers.specs.Groups.{tableAt}

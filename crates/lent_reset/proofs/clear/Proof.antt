@@ -2,7 +2,6 @@
 use Prim.Native.Nat.{ℕ, _-_, _<_, _≤_}
 use mathlib.Core.Path.{_≡_, _∙_}
 use lib.ListN.{getD, length, length-set}
-use borrow.Author.Needs.{needs}
 use native.Mathlib.Omega.{arith}
 use Rattle.lent_chip.specs.Layout.{whole}
 use Rattle.lent_reset.proofs.Bytes.{zero-next}

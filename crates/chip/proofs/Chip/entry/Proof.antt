@@ -1,6 +1,5 @@
 -- The palette is shown as it is kept.
 use Rattle.chip.specs.View.{view}
-use mathlib.Core.Path.{refl}
 use borrow.Author.Needs.{needs}
 use Rattle.chip.proofs.Chip.entry.Statement.{statement}
 use Rattle.chip.proofs.Chip.entry.Tie as tie

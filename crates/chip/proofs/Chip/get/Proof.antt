@@ -2,7 +2,6 @@
 use mathlib.Core.Path.{refl}
 use native.Mathlib.Omega.{arith}
 use borrow.Author.Needs.{needs}
-use Rattle.chip_registers.specs.Groups.{isIndexed}
 use Rattle.chip.proofs.Places.{read-there, read-nowhere, read-msr, read-palmask}
 use Rattle.chip.proofs.Chip.get.Statement.{statement}
 use Rattle.chip.proofs.Chip.get.Tie as tie
