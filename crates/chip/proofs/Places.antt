@@ -1,5 +1,5 @@
--- Where a register stands in the row, as the code asks: a number below 275, or 275 for none. What the proofs of `place_of`, `get`,
--- `put` and `fill` cite.
+-- Where a register stands in the row, as the code asks: a number below 275, or 275 for none. What the proofs of `place_of`,
+-- `get`, `put` and `fill` cite.
 use Prim.Native.Nat.{ℕ, suc, _+_, _*_, _-_, _/_, _%_, _<_, _≤_}
 use native.Mathlib.Omega.{arith}
 use mathlib.Core.Bool.{Bool, true, false, cond, true≢false}

@@ -1,9 +1,9 @@
--- What is kept of the state, and the state that it shows. Document 02, P7: only listed registers are kept, in one row in the order
--- of the tables (`slotOf` of crate `chip_registers` says where each stands). The arrangement of which every definition speaks has
--- a table of 256 for each group: `view` fills each from the row, with 00h where an index is not listed. A kept state and a state
--- match when the one shows the other. What is shown decides what is kept (law `view-decides`), and every state that accesses
--- reach is shown (law `reached-shown`): proofs/ViewLaws. Every contract of this crate says what is shown afterwards by what was
--- shown before: from matching states to matching states.
+-- What is kept of the state, and the state that it shows. Document 02, P7: only listed registers are kept, in one row in the
+-- order of the tables (`slotOf` of crate `chip_registers` says where each stands). The arrangement of which every definition
+-- speaks has a table of 256 for each group: `view` fills each from the row, with 00h where an index is not listed. A kept state
+-- and a state match when the one shows the other. What is shown decides what is kept (law `view-decides`), and every state that
+-- accesses reach is shown (law `reached-shown`): proofs/ViewLaws. Every contract of this crate says what is shown afterwards by
+-- what was shown before: from matching states to matching states.
 use Prim.Native.Nat.{ℕ}
 use mathlib.Core.Bool.{true}
 use mathlib.Core.Path.{_≡_}

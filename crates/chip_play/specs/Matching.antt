@@ -1,9 +1,9 @@
 -- Document 02, P7, to read: "Every access, run and script must give exactly what the old arrangement gave, from matching states
--- to matching states." The old arrangement, with a table of 256 for each group, is the state of the definitions (`Chip`); what is
--- kept has the listed registers alone (`Kept`, the code's struct); the two match when the one shows the other (`Shows`, specs/View
--- of crate `chip`). An act is whatever a host can ask of a chip. What the contracts say of an act on what is kept is `KeptGave`:
--- the struct's row has its 275 bytes, and what is shown and said is what the definitions give from what was shown. The theorem is
--- `smaller-state`, in proofs/Matching. It looks at no group: one argument for all, AR's included.
+-- to matching states." The old arrangement, with a table of 256 for each group, is the state of the definitions (`Chip`); what
+-- is kept has the listed registers alone (`Kept`, the code's struct); the two match when the one shows the other (`Shows`,
+-- specs/View of crate `chip`). An act is whatever a host can ask of a chip. What the contracts say of an act on what is kept is
+-- `KeptGave`: the struct's row has its 275 bytes, and what is shown and said is what the definitions give from what was shown.
+-- The theorem is `smaller-state`, in proofs/Matching. It looks at no group: one argument for all, AR's included.
 use Prim.Native.Nat.{ℕ, _<_}
 use mathlib.Core.Path.{_≡_}
 use mathlib.Core.List.{List, [], _∷_}

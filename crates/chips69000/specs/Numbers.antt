@@ -1,6 +1,6 @@
 -- What crosses the boundary beside the numbers of the crates below: the versions, the number of a reset, and the commands that
--- were carried out. Numbers are document 01's ("Numbers returned"), and `noState` for bytes that are no state. What has a longer value writes
--- it to a place that the caller lends.
+-- were carried out. Numbers are document 01's ("Numbers returned"), and `noState` for bytes that are no state. What has a
+-- longer value writes it to a place that the caller lends.
 use Prim.Native.Nat.{ℕ}
 use Rattle.chip_play.specs.declared.Outcome.{Outcome}
 use Rattle.chip_play.specs.declared.Outcome.the-variants.{NotPlayed, Played}

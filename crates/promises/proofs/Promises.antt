@@ -43,7 +43,6 @@ use Rattle.chip.proofs.NumberLaws as number-laws
 use Rattle.chip.proofs.NameLaws as name-laws
 use Rattle.chip.proofs.NameLaws.{Has, Different}
 use Rattle.chip.proofs.ReachLaws as reach-laws
-use Rattle.chip.proofs.ResetLaws as reset-laws
 use Rattle.chip.proofs.ShownLaws as shown-laws
 use Rattle.chip.proofs.IndexLaws as index-laws
 use Rattle.chip.proofs.AttributeLaws as attribute-laws
