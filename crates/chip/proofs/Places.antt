@@ -9,7 +9,6 @@ use lib.Dec.{eqb, ltb}
 use lib.ListN.{getD, length, set}
 use lib.Seq.{getD-set-same, getD-set-other}
 use borrow.Author.Tests.{eqb-true, eqb-false, ltb-true, ltb-false}
-use Rattle.lists.specs.Scan.{every}
 use Rattle.lists.proofs.Tab.{tab-same}
 use Rattle.chip_registers.specs.Groups.{numberOf, groupAt, isIndexed}
 use Rattle.chip_registers.specs.Row.{Slot, At, Nowhere, before, slotOf, rowSize}
@@ -17,7 +16,7 @@ use Rattle.chip_registers.specs.WriteRule.{writableNow, written}
 use Rattle.chip_registers.specs.declared.Group.{Group}
 use Rattle.chip_registers.specs.declared.Group.the-variants.{Msr, Palmask}
 use Rattle.chip_registers.proofs.RowLaws.{stands, slot-one, nowhere-unlisted}
-use Rattle.chip_registers.proofs.TableLaws.{group-numbered, every-group}
+use Rattle.chip_registers.proofs.TableLaws.{group-numbered, number-few}
 use Rattle.chip_masks.specs.Table.{standing, standingOf}
 use Rattle.chip.specs.State.{named, withNamed}
 use Rattle.chip.specs.Names.{register, locked, received}
@@ -29,10 +28,6 @@ use Rattle.chip.proofs.ViewLaws.{withRow, shown-at, received-at, receiv
 
 at-inj : {j k : ℕ} → At j ≡ At k → j ≡ k
 at-inj e = ap numberAt e
-
-number-below : (g : Group) → numberOf g < 9
-unfolding groupAt every
-number-below g = ltb-true (numberOf g) 9 (every-group (λ h. ltb (numberOf h) 9) refl g)
 
 module _ (g : Group) (i : ℕ) (h : i < 256) where
   -- MSR and PALMASK stand in no row
@@ -185,7 +180,7 @@ module _ (first second : ℕ) where
   pub filled : (r : List ℕ) → ((m : ℕ) → m < 2304 → Stored r m) → Filled first second r
   filled r done g x =
       tab-same (λ i. inRow r (slotOf g i)) (resetByte first second g) 256
-      (λ i h. let low = number-below g in
+      (λ i h. let low = number-few g in
       let q : (256 * numberOf g + i) / 256 ≡ numberOf g = omega arith in
       let j : (256 * numberOf g + i) % 256 ≡ i = omega arith in
       let t = done (256 * numberOf g + i) (omega arith) in

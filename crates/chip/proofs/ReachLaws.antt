@@ -1,6 +1,6 @@
 -- What holds in every state that accesses reach from a reset: bits that are not writable keep the value that the reset gave
--- them; so the ports stay open or closed, XR08 shows CFG1, and an unlisted index reads 00h. Registers hold bytes, so what
--- CR11 or the picture protects bit by bit it protects whole. That each register has its place is in SizeLaws.
+-- them; so the ports stay open or closed, and XR08 shows CFG1. Registers hold bytes, so what CR11 or the picture protects bit
+-- by bit it protects whole. That each register has its place is in SizeLaws, and that an unlisted index reads 00h in KeptLaws.
 use Prim.Native.Nat.{ℕ, _<_}
 use native.Mathlib.Omega.{arith}
 use mathlib.Core.Bool.{true}
@@ -13,7 +13,6 @@ use Rattle.chip_registers.specs.Extension.{XR}
 use Rattle.chip_registers.specs.Groups.{rowOf, writableOf}
 use Rattle.chip_registers.specs.WriteRule.{lockedBy}
 use Rattle.chip_registers.proofs.WriteLaws.{locked-fewer, same-bits, CR00-to-CR06-locked, AR00-to-AR0F-locked}
-use Rattle.chip_registers.specs.declared.Row.the-variants.{Unlisted}
 use Rattle.chip_registers.specs.declared.Group.{Group}
 use Rattle.chip_registers.specs.declared.Group.the-variants.{Cr, Xr, Ar}
 use Rattle.chip.specs.State.{Chip, Named, named}
@@ -23,7 +22,7 @@ use Rattle.chip.specs.Reset.{resetByte}
 use Rattle.chip.specs.Reach.{Reach, fresh, wrote, saw}
 use Rattle.chip.proofs.AccessLaws.{write-keeps-bit, write-bytes, read-keeps-all}
 use Rattle.chip.proofs.NameLaws.{Bytes}
-use Rattle.chip.proofs.ResetLaws.{register-reset, reset-bytes, reset-unlisted, XR-pins-reset}
+use Rattle.chip.proofs.ResetLaws.{register-reset, reset-bytes, XR-pins-reset}
 
 -- bits that are not writable keep the value of the reset
 pub fixed-bits : {first second : ℕ} {c : Chip} → Reach first second c → (g : Group) (i k : ℕ) → i < 0x100 → k < 8 → bit k (writableOf g i) ≡ 0
@@ -64,13 +63,6 @@ pub reach-bytes : {first second : ℕ} {c : Chip} → first < 0x100 → second <
 reach-bytes {first} {second} hp hq fresh = reset-bytes first second hp hq
 reach-bytes hp hq (wrote {c} port v hv r) = write-bytes c port v hv (reach-bytes hp hq r)
 reach-bytes hp hq (saw {c} port r) = rw (read-keeps-all c port .0) (reach-bytes hp hq r)
-
--- an unlisted index reads 00h
-pub unlisted-reads-00 : {first second : ℕ} {c : Chip} → first < 0x100 → second < 0x100 → Reach first second c → (g : Group) (i : ℕ) → i < 0x100
-    → rowOf g i ≡ Unlisted → register g (named c) i ≡ 0x00
-unlisted-reads-00 {first} {second} {c} hp hq r g i hi none =
-    same-bits (register g (named c) i) 0x00 (reach-bytes hp hq r g i) (omega arith)
-    (λ k hk. fixed-bits r g i k hi hk (rw none (zero-bit k)) ∙ ap (bit k) (reset-unlisted first second g i none))
 
 -- a register without a writable bit at this moment stays whole, whatever is written to whatever port
 pub shut-stays : {first second : ℕ} {c : Chip} → first < 0x100 → second < 0x100 → Reach first second c → (p v : ℕ) → v < 0x100

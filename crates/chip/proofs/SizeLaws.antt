@@ -66,7 +66,7 @@ length-palette-written c p v =
     named-written (λ n. length (n .palette) ≡ length (c .palette)) c v refl (λ g. refl) (length-coloured (named c)) (λ b. refl) p
 
 -- the sizes of a reached state
-pub reach-room : {first second : ℕ} {c : Chip} → Reach first second c → (g : Group) → length (bank g (named c)) ≡ room g
+reach-room : {first second : ℕ} {c : Chip} → Reach first second c → (g : Group) → length (bank g (named c)) ≡ room g
 reach-room {first} {second} fresh g = ap length (bank-reset first second g) ∙ tab-length (resetByte first second g) (room g)
 reach-room (wrote {c} p v hv r) g = length-written g c p v ∙ reach-room r g
 reach-room (saw {c} p r) g = ap (λ (n : Named). length (bank g n)) (read-keeps-all c p .0) ∙ reach-room r g

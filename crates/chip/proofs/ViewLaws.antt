@@ -1,6 +1,6 @@
 -- The row and the tables: a register by name is the byte at its place, a byte stored at a place is that register replaced, of
--- whatever group, what is shown decides what is kept, and every state that accesses reach is shown. One argument serves all
--- groups: two names never have one place, and every place has a name (RowLaws of crate `chip_registers`).
+-- whatever group, and what is shown decides what is kept. One argument serves all groups: two names never have one place, and
+-- every place has a name (RowLaws of crate `chip_registers`). Which states are shown is in KeptLaws.
 use Prim.Native.Nat.{ℕ, zero, suc, _<_}
 use native.Mathlib.Omega.{arith}
 use mathlib.Core.Bool.{Bool, true, false, cond, not, _||_, _&&_, true≢false}
@@ -9,9 +9,8 @@ use mathlib.Core.List.{List, [], _∷_}
 use lib.Bits.{and-zero-l}
 use lib.ListN.{getD, length, set}
 use lib.Seq.{ext-getD, getD-set-same, getD-set-other}
-use Rattle.lists.specs.Tab.{tab}
 use Rattle.lists.specs.Scan.{every}
-use Rattle.lists.proofs.Tab.{tab-length, tab-at, tab-same, tab-set, tab-is}
+use Rattle.lists.proofs.Tab.{tab-at, tab-same, tab-set}
 use Rattle.lists.proofs.Tests.{and-both}
 use Rattle.chip_registers.specs.Groups.{groupAt, is, isIndexed, rowOf, writableIn}
 use Rattle.chip_registers.specs.Row.{Slot, At, Nowhere, slotOf, rowSize}
@@ -25,12 +24,9 @@ use Rattle.chip_registers.proofs.RowLaws.{stands, slot-one, nowhere-unlisted, u
 use Rattle.chip_registers.proofs.WriteLaws.{written-none}
 use Rattle.chip.specs.State.{Chip, Named, named, withNamed, withPicture}
 use Rattle.chip.specs.Names.{register, replaced, locked, received}
-use Rattle.chip.specs.Reach.{Reach}
 use Rattle.chip.specs.View.{inRow, tableFrom, view, Shows}
 use Rattle.chip.specs.declared.Chip.{Chip as Kept}
 use Rattle.chip.proofs.Banks.{is-self}
-use Rattle.chip.proofs.ReachLaws.{unlisted-reads-00}
-use Rattle.chip.proofs.SizeLaws.{reach-room}
 
 -- ---- a register of the row
 
@@ -54,7 +50,7 @@ place-shown f k h =
     ∙ ap (inRow (f .row)) (each-slot k h)
 
 -- MSR and PALMASK are listed at whatever index
-one-register : (g : Group) (i : ℕ) → isIndexed g ≡ false → rowOf g i ≡ Unlisted → ⊥
+pub one-register : (g : Group) (i : ℕ) → isIndexed g ≡ false → rowOf g i ≡ Unlisted → ⊥
 unfolding rowOf
 one-register g i x e = go g x e
   where
@@ -174,8 +170,8 @@ received-at g f i k v m h n e w =
     row-set g f i k (written (getD (f .row) k 0) v m) h n e
     ∙ rw (w, shown-at g f i h (stands g i k h e .listed), e)
 
--- an unlisted index has no bit that can be written, and keeps its 00h: a byte that it receives changes nothing
-set-itself : (l : List ℕ) (k : ℕ) → set l k (getD l k 0) ≡ l
+-- a byte replaced by itself, and a register
+pub set-itself : (l : List ℕ) (k : ℕ) → set l k (getD l k 0) ≡ l
 set-itself [] k = refl
 set-itself (x ∷ l) zero = refl
 set-itself (x ∷ l) (suc k) = ap (λ (t : List ℕ). x ∷ t) (set-itself l k)
@@ -191,9 +187,10 @@ replaced-itself Msr n i = refl
 replaced-itself Palmask n i = refl
 replaced-itself Ar n i = rw (set-itself (n .ar) i)
 
-pub none-writable : (g : Group) (on : Bool) (i : ℕ) → i < 256 → isIndexed g ≡ true → slotOf g i ≡ Nowhere → writableNow g on i ≡ 0x00
+-- an unlisted index has no bit that can be written, and keeps its 00h: a byte that it receives changes nothing
+pub none-writable : (g : Group) (on : Bool) (i : ℕ) → rowOf g i ≡ Unlisted → writableNow g on i ≡ 0x00
 unfolding writableNow
-none-writable g on i h x e = rw (ap writableIn (nowhere-unlisted g i h x e)) (go on)
+none-writable g on i none = rw (ap writableIn none) (go on)
   where
     go : (z : Bool) → underLock g z i 0x00 ≡ 0x00
     go true = and-zero-l (leftOpen g i)
@@ -206,7 +203,7 @@ received-nowhere g f i v h x e =
     let old : register g (named (view f)) i ≡ 0x00 = shown-at g f i h x ∙ ap (inRow (f .row)) e in
     let below : 0x00 < 0x100 = omega arith in
     let same : written (register g (named (view f)) i) v (writableNow g (locked g (named (view f))) i) ≡ register g (named (view f)) i =
-    rw (none-writable g (locked g (named (view f))) i h x e, old) (written-none 0x00 v below) in
+    rw (none-writable g (locked g (named (view f))) i (nowhere-unlisted g i h x e), old) (written-none 0x00 v below) in
     ap (λ (b : ℕ). withNamed (view f) (replaced g (named (view f)) i b)) same ∙ ap (withNamed (view f)) (replaced-itself g (named (view f)) i)
 
 -- ---- what is shown decides what is kept
@@ -230,92 +227,3 @@ view-decides e f m n p = λ i. record {
 
 pub shows-decides : (e f : Kept) (c : Chip) → Shows e c → Shows f c → e ≡ f
 shows-decides e f c s t = view-decides e f (s .size) (t .size) (s .chip ∙ sym (t .chip))
-
--- ---- every reached state is shown
-
--- what is kept of a state: each place has the byte of its register
-abbrev pub kept : Chip → Kept
-kept c = record {
-  row = tab (λ k. register (groupOn k) (named c) (indexOn k)) rowSize;
-  msr = c .msr;
-  palmask = c .palmask;
-  picture = c .picture;
-  palette = c .palette;
-  indexes = c .indexes;
-  loading = c .loading;
-}
-
--- the tables have 256 bytes, and 00h where an index is not listed
-pub record Rowable (c : Chip) : Type 0 where
-  pub cr : length (c .cr) ≡ 256
-  pub sr : length (c .sr) ≡ 256
-  pub gr : length (c .gr) ≡ 256
-  pub xr : length (c .xr) ≡ 256
-  pub fr : length (c .fr) ≡ 256
-  pub mr : length (c .mr) ≡ 256
-  pub ar : length (c .ar) ≡ 256
-  pub unlisted : (g : Group) (i : ℕ) → i < 256 → rowOf g i ≡ Unlisted → register g (named c) i ≡ 0x00
-
-module _ (c : Chip) (r : Rowable c) where
-  -- one register, of whatever group
-  back : (g : Group) → isIndexed g ≡ true → (i : ℕ) → i < 256 → inRow (kept c .row) (slotOf g i) ≡ register g (named c) i
-  back g x i h = go (slotOf g i) refl
-    where
-      go : (s : Slot) → slotOf g i ≡ s → inRow (kept c .row) s ≡ register g (named c) i
-      go (At k) e =
-          let w : k < rowSize = stands g i k h e .within in
-          let (u, v) = slot-one (groupOn k) g (indexOn k) i k (index-on k) h (each-slot k w) e in
-          tab-at (λ j. register (groupOn j) (named c) (indexOn j)) rowSize k 0 w
-          ∙ (ap (λ (d : Group). register d (named c) (indexOn k)) u ∙ ap (register g (named c)) v)
-      go Nowhere e = sym (r .unlisted g i h (nowhere-unlisted g i h x e))
-
-  pub kept-shows : Shows (kept c) c
-  unfolding view
-  kept-shows = record {
-    size = tab-length (λ k. register (groupOn k) (named c) (indexOn k)) rowSize;
-    chip = λ t. record {
-      cr = tab-is (λ i. inRow (kept c .row) (slotOf Cr i)) 256 (c .cr) (r .cr) (back Cr refl) t;
-      sr = tab-is (λ i. inRow (kept c .row) (slotOf Sr i)) 256 (c .sr) (r .sr) (back Sr refl) t;
-      gr = tab-is (λ i. inRow (kept c .row) (slotOf Gr i)) 256 (c .gr) (r .gr) (back Gr refl) t;
-      xr = tab-is (λ i. inRow (kept c .row) (slotOf Xr i)) 256 (c .xr) (r .xr) (back Xr refl) t;
-      fr = tab-is (λ i. inRow (kept c .row) (slotOf Fr i)) 256 (c .fr) (r .fr) (back Fr refl) t;
-      mr = tab-is (λ i. inRow (kept c .row) (slotOf Mr i)) 256 (c .mr) (r .mr) (back Mr refl) t;
-      ar = tab-is (λ i. inRow (kept c .row) (slotOf Ar i)) 256 (c .ar) (r .ar) (back Ar refl) t;
-      msr = c .msr;
-      palmask = c .palmask;
-      picture = c .picture;
-      palette = c .palette;
-      indexes = c .indexes;
-      loading = c .loading;
-    };
-  }
-
--- what is shown is such a state
-pub view-rowable : (f : Kept) → Rowable (view f)
-unfolding view
-view-rowable f = record {
-  cr = tab-length (λ i. inRow (f .row) (slotOf Cr i)) 256;
-  sr = tab-length (λ i. inRow (f .row) (slotOf Sr i)) 256;
-  gr = tab-length (λ i. inRow (f .row) (slotOf Gr i)) 256;
-  xr = tab-length (λ i. inRow (f .row) (slotOf Xr i)) 256;
-  fr = tab-length (λ i. inRow (f .row) (slotOf Fr i)) 256;
-  mr = tab-length (λ i. inRow (f .row) (slotOf Mr i)) 256;
-  ar = tab-length (λ i. inRow (f .row) (slotOf Ar i)) 256;
-  unlisted = λ g i h e. unlisted-shows-00 g f i h e;
-}
-
-pub reached-rowable : {first second : ℕ} {c : Chip} → first < 0x100 → second < 0x100 → Reach first second c → Rowable c
-reached-rowable p q r = record {
-  cr = reach-room r Cr;
-  sr = reach-room r Sr;
-  gr = reach-room r Gr;
-  xr = reach-room r Xr;
-  fr = reach-room r Fr;
-  mr = reach-room r Mr;
-  ar = reach-room r Ar;
-  unlisted = λ g i h e. unlisted-reads-00 p q r g i h e;
-}
-
--- every state that accesses reach in the old arrangement is matched
-pub reached-shown : {first second : ℕ} {c : Chip} → first < 0x100 → second < 0x100 → Reach first second c → Shows (kept c) c
-reached-shown {c = c} p q r = kept-shows c (reached-rowable p q r)

@@ -4,19 +4,24 @@ use mathlib.Core.Path.{_≡_, refl, sym, ap, _∙_}
 use mathlib.Core.List.{List}
 use lib.ListN.{length}
 use Rattle.chip_registers.specs.Row.{rowSize}
-use Rattle.chip.specs.State.{Chip}
+use Rattle.chip.specs.State.{Chip, named}
 use Rattle.chip.specs.Access.{Wrote, Seen, portWritten, portRead}
 use Rattle.chip.specs.Reset.{reset}
 use Rattle.chip.specs.View.{view, viewWrote, viewSeen, Shows}
 use Rattle.chip.specs.declared.Chip.{Chip as Kept}
 use Rattle.chip.specs.declared.access.Wrote.{Wrote as KeptWrote}
 use Rattle.chip.specs.declared.access.Seen.{Seen as KeptSeen}
-use Rattle.chip.proofs.ViewLaws.{view-decides, kept, reached-shown}
+use Rattle.chip.proofs.ViewLaws.{view-decides}
+use Rattle.chip.proofs.KeptLaws.{kept, Rowable, kept-shows, view-rowable, reset-rowable, written-rowable, read-rowable, reached-shown}
 use Rattle.chip_run.specs.Run.{Ran as RanTo, ran}
 use Rattle.chip_run.specs.View.{viewRan}
+use Rattle.chip_run.proofs.RunLaws.{run-keeps}
 use Rattle.chip_run.specs.declared.Ran.{Ran as KeptRan}
 use Rattle.chip_play.specs.Matching.{Act, Reset, Write, Read, Run, Play, Said, Nothing, Answered, Saw, Ran, Became, Gave, gives, gave, KeptGave, KeptAll, none, next, saidBy, leftBy, SmallerState}
-use Rattle.chip_play.specs.Played.{Performance, played}
+use Rattle.script_commands.specs.Translation.{translated}
+use Rattle.script_commands.specs.declared.Translated.{Translated}
+use Rattle.script_commands.specs.declared.Translated.the-variants.{Commands, Refused}
+use Rattle.chip_play.specs.Played.{Performance, afterTranslation, played}
 use Rattle.chip_play.specs.View.{viewPerformance}
 use Rattle.chip_play.specs.declared.Performance.{Performance as KeptPerformance}
 
@@ -60,6 +65,24 @@ all-matched (next {k} {m} {n} {a} {s} g more) c shows =
     let (others, end) = all-matched more (gave a c .chip) left in
     (rw (same, others), end)
 
+-- an act leaves a state that can be kept
+act-rowable : (a : Act) (c : Chip) → Rowable (named c) → Rowable (named (gave a c .chip))
+unfolding gave played
+act-rowable (Reset first second) c r = reset-rowable first second
+act-rowable (Write p v) c r = written-rowable c p v r
+act-rowable (Read p) c r = read-rowable c p r
+act-rowable (Run bytes limit) c r = run-keeps (λ d. Rowable (named d)) written-rowable read-rowable c bytes limit r
+act-rowable (Play file room) c r = go (translated file room)
+  where
+    go : (t : Translated) → Rowable (named (afterTranslation t c file .chip))
+    go (Commands k) = run-keeps (λ d. Rowable (named d)) written-rowable read-rowable c _ k r
+    go (Refused why) = r
+
+there : (k : Kept) (a : Act) → (s : Said) × (m : Kept) × KeptGave k a s m
+there k a =
+    let s = kept-shows (gave a (view k) .chip) (act-rowable a (view k) (view-rowable k)) in
+    (gave a (view k) .said, kept (gave a (view k) .chip), record { size = s .size; shown = ap (gives (gave a (view k) .said)) (s .chip) })
+
 pub smaller-state : SmallerState
 smaller-state = record {
   act = matched;
@@ -67,6 +90,7 @@ smaller-state = record {
   decided = λ k a s t m n g h.
       let e : gives s (view m) ≡ gives t (view n) = g .shown ∙ sym (h .shown) in
       (ap (λ (x : Gave). x .said) e, view-decides m n (g .size) (h .size) (ap (λ (x : Gave). x .chip) e));
-  reached = λ first second p q c r. (kept c, reached-shown p q r);
+  there = there;
+  reached = λ first second c r. (kept c, reached-shown r);
   one = λ k c d s t. sym (s .chip) ∙ t .chip;
 }

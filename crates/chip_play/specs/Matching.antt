@@ -4,7 +4,7 @@
 -- specs/View of crate `chip`). An act is whatever a host can ask of a chip. What the contracts say of an act on what is kept is
 -- `KeptGave`: the struct's row has its 275 bytes, and what is shown and said is what the definitions give from what was shown.
 -- The theorem is `smaller-state`, in proofs/Matching. It looks at no group: one argument for all, AR's included.
-use Prim.Native.Nat.{ℕ, _<_}
+use Prim.Native.Nat.{ℕ}
 use mathlib.Core.Path.{_≡_}
 use mathlib.Core.List.{List, [], _∷_}
 use lib.ListN.{length}
@@ -81,6 +81,8 @@ pub record SmallerState : Type 0 where
       → (said ≡ saidBy l c) × Shows m (leftBy l c)
   -- the contract decides what is said and what is kept
   pub decided : (k : Kept) (a : Act) (s t : Said) (m n : Kept) → KeptGave k a s m → KeptGave k a t n → (s ≡ t) × (m ≡ n)
+  -- and it asks for nothing that is not there
+  pub there : (k : Kept) (a : Act) → (s : Said) × (m : Kept) × KeptGave k a s m
   -- every state that accesses reach in the old arrangement is matched, and what is kept matches one state
-  pub reached : (first second : ℕ) → first < 0x100 → second < 0x100 → (c : Chip) → Reach first second c → (k : Kept) × Shows k c
+  pub reached : (first second : ℕ) (c : Chip) → Reach first second c → (k : Kept) × Shows k c
   pub one : (k : Kept) (c d : Chip) → Shows k c → Shows k d → c ≡ d

@@ -94,7 +94,7 @@ group-numbered Msr = refl
 group-numbered Palmask = refl
 group-numbered Ar = refl
 
-number-few : (g : Group) → numberOf g < 9
+pub number-few : (g : Group) → numberOf g < 9
 number-few Cr = omega arith
 number-few Sr = omega arith
 number-few Gr = omega arith

@@ -1,6 +1,6 @@
 -- Laws of the run: its count is the least of the limit, the commands there are and those before the first refused one; a run
--- of two lists is the run of the second from where the first left off; a larger limit extends the shorter run; and the
--- bytes of commands run as those commands.
+-- of two lists is the run of the second from where the first left off; a larger limit extends the shorter run; the bytes of
+-- commands run as those commands; and what port accesses keep, a run keeps.
 use Prim.Native.Nat.{ℕ, zero, suc, _+_, _-_, _*_, _/_, _%_, _≤_, min}
 use lib.Seq.{length-take-le}
 use native.Mathlib.Omega.{arith}
@@ -10,14 +10,15 @@ use mathlib.Core.List.{List, [], _∷_, _++_}
 use lib.Dec.{eqb}
 use lib.ListN.{length, take, drop, take-append-drop}
 use Rattle.chip.specs.State.{Chip}
+use Rattle.chip.specs.Access.{portWritten, portRead}
 use Rattle.script_commands.specs.Command.{bytesOf, bytesOfAll}
 use Rattle.script_commands.proofs.Codec.{bytes-read, length-bytes}
 use Rattle.script_commands.specs.declared.Command.{Command}
 use Rattle.script_commands.specs.declared.Command.the-variants.{Out, In, Merge, OutAcc}
 use Rattle.script_commands.specs.declared.CommandRead.{CommandRead}
-use Rattle.script_commands.specs.declared.CommandRead.the-variants.{Known}
+use Rattle.script_commands.specs.declared.CommandRead.the-variants.{Known, Unknown}
 use Rattle.lists.specs.Numbers.{returned}
-use Rattle.chip_run.specs.Run.{Ran, Did, did, one, following, ranTo, runFrom, afterDone, carry, more, carried, reads, ran, least, ofEnding}
+use Rattle.chip_run.specs.Run.{Ran, Did, did, done, one, following, ranTo, runFrom, afterDone, carry, more, carried, reads, ran, least, ofEnding}
 use Rattle.chip_run.specs.declared.Reason.{Reason}
 use Rattle.chip_run.specs.declared.Reason.the-variants.{Form}
 use Rattle.chip_run.specs.declared.Verdict.{Verdict}
@@ -220,3 +221,33 @@ run-commands c xs limit =
     let n : length (bytesOfAll xs) ≡ 4 * length xs = length-bytes xs in
     let z : limit - 0 ≡ limit = omega arith in
     sym (whole c (bytesOfAll xs) limit (omega arith)) ∙ rw z (ap (runFrom c 0 0 limit) (reads-bytes xs))
+
+-- what port accesses keep, a run keeps
+module _ (P : Chip → Type 0) (write : (c : Chip) (p v : ℕ) → P c → P (portWritten c p v .chip)) (read : (c : Chip) (p : ℕ) → P c → P (portRead c p .chip)) where
+  one-keeps : (c : Chip) (acc : ℕ) (r : CommandRead) → P c → P (one c acc r .chip)
+  unfolding one done
+  one-keeps c acc (Known (Out port value)) h = write c port value h
+  one-keeps c acc (Known (In port)) h = read c port h
+  one-keeps c acc (Known (Merge keep set)) h = h
+  one-keeps c acc (Known (OutAcc port)) h = write c port acc h
+  one-keeps c acc Unknown h = h
+
+  from-keeps : (rs : List CommandRead) (c : Chip) (acc k left : ℕ) → P c → P (runFrom c acc k left rs .chip)
+  unfolding runFrom
+  from-keeps [] c acc k left h = h
+  from-keeps (r ∷ rs) c acc k zero h = h
+  from-keeps (r ∷ rs) c acc k (suc left) h =
+      go (one c acc r .verdict) (runFrom (one c acc r .chip) (one c acc r .acc) (k + 1) left rs)
+      (from-keeps rs (one c acc r .chip) (one c acc r .acc) (k + 1) left (one-keeps c acc r h))
+    where
+      go : (v : Verdict) (x : Ran) → P (x .chip) → P (following v x (λ why. ranTo c k (Stopped k why)) .chip)
+      go Done x y = y
+      go (Bad why) x y = h
+
+  pub run-keeps : (c : Chip) (bytes : List ℕ) (limit : ℕ) → P c → P (ran c bytes limit .chip)
+  unfolding ran
+  run-keeps c bytes limit h = go (eqb (length bytes % 4) 0)
+    where
+      go : (z : Bool) → P (cond z (runFrom c 0 0 limit (reads bytes)) (ranTo c 0 (Stopped 0 Form)) .chip)
+      go true = from-keeps (reads bytes) c 0 0 limit h
+      go false = h

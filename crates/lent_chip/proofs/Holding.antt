@@ -1,9 +1,9 @@
 -- Bytes that hold a chip, and hold another after a store: each store as one step from `Holds` to `Holds`, so that a function of
 -- several stores is a chain of them. The spare bits stay, since only the byte of flags has them.
-use Prim.Native.Nat.{ℕ, zero, suc, _+_, _*_, _/_, _%_, _<_}
+use Prim.Native.Nat.{ℕ, _+_, _*_, _/_, _%_, _<_}
 use mathlib.Core.Path.{_≡_, refl, ap, _∙_, sym}
 use mathlib.Core.Bool.{Bool, true, false, cond}
-use mathlib.Core.List.{List, [], _∷_}
+use mathlib.Core.List.{List}
 use lib.Bits.{bitAnd, and-comm, and-le-l, and-mask, and-mod}
 use lib.Dec.{eqb}
 use lib.ListN.{getD, set, length, length-set}
@@ -18,12 +18,13 @@ use Rattle.chip_registers.specs.declared.Group.{Group}
 use Rattle.chip_registers.specs.declared.Group.the-variants.{Msr, Palmask, Ar}
 use Rattle.chip_registers.proofs.WriteLaws.{written-none}
 use Rattle.chip_masks.specs.Table.{standingOf}
+use Rattle.chip_registers.proofs.RowLaws.{nowhere-unlisted}
 use Rattle.chip.specs.State.{Chip, named, join, withNamed, withIndexes, withLoading, withPicture, withTurn}
 use Rattle.chip.specs.Names.{locked, received}
 use Rattle.chip.specs.Attribute.{attributeAimed}
 use Rattle.chip.specs.Palette.{rgb, entry, withPalette, component}
 use Rattle.chip.specs.View.{view as shownBy}
-use Rattle.chip.proofs.ViewLaws.{withRow, received-at, received-nowhere, none-writable}
+use Rattle.chip.proofs.ViewLaws.{withRow, received-at, received-nowhere, none-writable, set-itself}
 use Rattle.lent_chip.specs.Layout.{MSR, PALMASK, AR-INDEX, INDEX, POSITION, FLAGS, PALETTE, ROW, whole, laid, view, spare, baseOf, placeOf, thirdOf, Holds}
 use Rattle.lent_chip.proofs.Flags.{below-two, tested, reading-put, turn-put, picture-put}
 use Rattle.lent_chip.proofs.Stores.{single, set-single, set-row, row-length, row-at, set-colour, get-colour, Where, InRow, IsMsr, IsPalmask, Unlisted, where-is}
@@ -111,12 +112,6 @@ pub then-aimed : {l m : List ℕ} {c : Chip} {b r w : ℕ} (v : ℕ) → Holds l
 then-aimed {r = r} v h kept lit turn =
     now-holds (turned true (then-picture (isSet 5 v) (then-single AR-INDEX r h (omega arith)) lit) turn) (rw kept)
 
--- a byte replaced by itself
-set-itself : (l : List ℕ) (k : ℕ) → set l k (getD l k 0) ≡ l
-set-itself [] k = refl
-set-itself (x ∷ l) zero = refl
-set-itself (x ∷ l) (suc k) = ap (λ (t : List ℕ). x ∷ t) (set-itself l k)
-
 -- the bits of a mask that a lock leaves are those that are open of it
 pub open-bits : (g : Group) (on : Bool) (i m : ℕ) → m < 256 → bitAnd m (underLock g on i 0xFF) ≡ underLock g on i m
 open-bits g on i m h = go on
@@ -158,7 +153,7 @@ module _ (l : List ℕ) (i v m : ℕ) (n : length l ≡ whole) (h : i < 256) whe
       → Holds (set l p (written (getD l p 0) v m)) (withNamed (view l) (received g (named (view l)) i v)) (spare l)
   unfolding view
   nowhere g p x e byte mask =
-      let same : written (getD l p 0) v m ≡ getD l p 0 = rw (mask, none-writable g (locked g (named (view l))) i h x e) (written-none (getD l p 0) v byte) in
+      let same : written (getD l p 0) v m ≡ getD l p 0 = rw (mask, none-writable g (locked g (named (view l))) i (nowhere-unlisted g i h x e)) (written-none (getD l p 0) v byte) in
       rw (same, set-itself l p) (now-holds (as-it-is n) (sym (received-nowhere g (laid l) i v h x e)))
 
   pub then-received : (g : Group) → getD l (placeOf g i) 0 < 256 → m ≡ writableNow g (locked g (named (view l))) i

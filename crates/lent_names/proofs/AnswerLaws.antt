@@ -11,9 +11,8 @@ use lib.ListN.{length}
 use borrow.Author.Tests.{eq-eqb, ne-eqb, eqb-true, eqb-false, lt-ltb, ltb-true, ltb-false}
 use Rattle.chip_registers.specs.Groups.{numberOf, groupAt, rowOf}
 use Rattle.chip_registers.specs.declared.Group.{Group}
-use Rattle.chip_registers.specs.declared.Group.the-variants.{Cr, Sr, Gr, Xr, Fr, Mr, Msr, Palmask, Ar}
 use Rattle.chip_registers.specs.declared.Row.the-variants.{Unlisted}
-use Rattle.chip_registers.proofs.TableLaws.{group-numbered}
+use Rattle.chip_registers.proofs.TableLaws.{group-numbered, number-few}
 use Rattle.chip.specs.State.{Chip, named}
 use Rattle.chip.specs.Names.{register}
 use Rattle.chip.specs.Palette.{entry, shown}
@@ -26,21 +25,10 @@ use Rattle.lent_names.specs.declared.Register.{Register}
 use Rattle.lent_names.specs.declared.Register.the-variants.{Byte, NoGroup, Length as RegisterLength}
 use Rattle.lent_names.specs.declared.Colour.the-variants.{Given}
 
-group-below : (g : Group) → numberOf g < 9
-group-below Cr = omega arith
-group-below Sr = omega arith
-group-below Gr = omega arith
-group-below Xr = omega arith
-group-below Fr = omega arith
-group-below Mr = omega arith
-group-below Msr = omega arith
-group-below Palmask = omega arith
-group-below Ar = omega arith
-
 module _ {l : List ℕ} {c : Chip} {bits : ℕ} (h : Holds l c bits) where
   -- a register by its group's number
   pub register-held : (g : Group) (i : ℕ) → registerAnswer l (numberOf g) i ≡ Byte (register g (named c) i)
-  register-held g i = rw (eq-eqb _ _ (h .size), lt-ltb _ _ (group-below g), group-numbered g, h .chip)
+  register-held g i = rw (eq-eqb _ _ (h .size), lt-ltb _ _ (number-few g), group-numbered g, h .chip)
 
   pub entry-held : (e : ℕ) → entryAnswer l e ≡ Given (entry (named c) e)
   entry-held e = rw (eq-eqb _ _ (h .size), h .chip)

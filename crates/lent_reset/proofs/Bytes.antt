@@ -1,5 +1,5 @@
 -- Bytes that are 0 but for the registers' reset bytes where they stand keep what crate `chip` keeps of the state that `reset`
--- gives, and so hold that state: it is reached, and shown by what is kept of it (ViewLaws of crate `chip`).
+-- gives, and so hold that state: it is shown by what is kept of it (KeptLaws of crate `chip`).
 use Prim.Native.Nat.{ℕ, zero, suc, _+_, _*_, _-_, _/_, _%_, _<_}
 use mathlib.Core.Path.{_≡_, refl, ap, _∙_, sym}
 use mathlib.Core.Bool.{Bool, true, false, cond}
@@ -8,25 +8,23 @@ use lib.Dec.{eqb, ltb}
 use lib.ListN.{getD, length, length-set, replicate, set}
 use lib.Seq.{getD-set-same, getD-set-other}
 use native.Mathlib.Omega.{arith}
-use borrow.Author.Tests.{eqb-true, eqb-false, ne-eqb, ltb-true, le-ltb}
-use Rattle.lists.specs.Scan.{every}
+use borrow.Author.Tests.{eqb-true, eqb-false, ne-eqb, le-ltb}
 use Rattle.lists.specs.Tab.{tab}
 use Rattle.lists.proofs.Tab.{tab-same}
 use Rattle.chip_registers.specs.Groups.{numberOf, groupAt, rowOf}
 use Rattle.chip_registers.specs.Row.{rowSize}
 use Rattle.chip_registers.specs.declared.Group.{Group}
 use Rattle.chip_registers.specs.declared.Group.the-variants.{Msr, Palmask}
-use Rattle.chip_registers.proofs.TableLaws.{group-numbered, every-group}
+use Rattle.chip_registers.proofs.TableLaws.{group-numbered, number-few}
 use Rattle.chip_registers.proofs.RowLaws.{slot-one, groupOn, indexOn, index-on, each-slot}
 use Rattle.chip_masks.specs.Table.{standingOf}
 use Rattle.chip.specs.State.{named}
 use Rattle.chip.specs.Names.{register}
 use Rattle.chip.specs.Palette.{rgb}
-use Rattle.chip.specs.Reach.{fresh}
 use Rattle.chip.specs.Reset.{resetByte, reset}
 use Rattle.chip.specs.View.{view as shownBy}
 use Rattle.chip.proofs.ResetLaws.{register-reset}
-use Rattle.chip.proofs.ViewLaws.{kept, reached-shown}
+use Rattle.chip.proofs.KeptLaws.{kept, reset-rowable, kept-shows}
 use Rattle.lent_chip.specs.Layout.{MSR, PALMASK, CR-INDEX, SR-INDEX, GR-INDEX, XR-INDEX, FR-INDEX, MR-INDEX, AR-INDEX, INDEX, POSITION, RED, GREEN, FLAGS, PALETTE, ROW, whole, colourIn, laid, view, spare, baseOf, placeOf, Holds}
 use Rattle.lent_chip.proofs.Stores.{Where, InRow, IsMsr, IsPalmask, Unlisted, where-is, placed}
 use Rattle.lent_reset.specs.Fresh.{Cleared, stored}
@@ -141,17 +139,13 @@ module _ (first second : ℕ) where
       }
 
   -- ---- all names are done
-  number-below : (g : Group) → numberOf g < 9
-  unfolding groupAt every
-  number-below g = ltb-true _ 9 (every-group (λ h. ltb (numberOf h) 9) refl g)
-
   module _ (l : List ℕ) (f : Done 2304 l) where
     -- a place of the row has a name, and so its byte
     row-byte : (k : ℕ) → k < rowSize → getD l (ROW + k) 0 ≡ register (groupOn k) (named (reset first second)) (indexOn k)
     row-byte k h =
         let n = numberOf (groupOn k) in
         let i = index-on k in
-        let b = number-below (groupOn k) in
+        let b = number-few (groupOn k) in
         let d : (256 * n + indexOn k) / 256 ≡ n = omega arith in
         let m : (256 * n + indexOn k) % 256 ≡ indexOn k = omega arith in
         let g : groupAt ((256 * n + indexOn k) / 256) ≡ groupOn k = ap groupAt d ∙ group-numbered (groupOn k) in
@@ -209,10 +203,10 @@ module _ (first second : ℕ) where
       };
     }
 
-    pub fresh-holds : first < 0x100 → second < 0x100 → Holds l (reset first second) 0
+    pub fresh-holds : Holds l (reset first second) 0
     unfolding view spare
-    fresh-holds p q = record {
+    fresh-holds = record {
       size = f .size;
-      chip = ap shownBy all-laid ∙ reached-shown p q fresh .chip;
+      chip = ap shownBy all-laid ∙ kept-shows (reset first second) (reset-rowable first second) .chip;
       spare = ap (λ (x : ℕ). x / 8) (zero-at FLAGS (omega arith) (omega arith));
     }

@@ -299,14 +299,18 @@ P5-misfit-is-7 g i misfit = (lawful.misfit-set g i misfit, lawful.misfit-field g
 
 -- P7. A kept state, the code's struct with its row of 275 bytes, matches the state that it shows. Whatever is asked, reset, port
 -- write and read, run and script: from matching states the same is said, and matching states are left; what the contract says
--- decides what is kept; and every state that accesses reach in the arrangement of tables is matched.
+-- decides what is kept, and asks for nothing that is not there; and every state that accesses reach in the arrangement of tables is
+-- matched.
 pub P7-matching : (k : Kept) (c : Chip) → Shows k c → (a : Act) (s : Said) (m : Kept) → KeptGave k a s m → (s ≡ gave a c .said) × Shows m (gave a c .chip)
 P7-matching = matching.smaller-state .act
 
 pub P7-decided : (k : Kept) (a : Act) (s t : Said) (m n : Kept) → KeptGave k a s m → KeptGave k a t n → (s ≡ t) × (m ≡ n)
 P7-decided = matching.smaller-state .decided
 
-pub P7-reached : (first second : ℕ) → first < 0x100 → second < 0x100 → (c : Chip) → Reach first second c → (k : Kept) × Shows k c
+pub P7-there : (k : Kept) (a : Act) → (s : Said) × (m : Kept) × KeptGave k a s m
+P7-there = matching.smaller-state .there
+
+pub P7-reached : (first second : ℕ) (c : Chip) → Reach first second c → (k : Kept) × Shows k c
 P7-reached = matching.smaller-state .reached
 
 -- Two registers never stand at one place, every place of the row has its register, and there is a place exactly where an index is

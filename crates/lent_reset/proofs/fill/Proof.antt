@@ -34,4 +34,4 @@ fill-spec =
     (λ c. omega (arith, c .before .loop .inv .1 .size))
     (λ c. let all : c .before .loop .name ≡ 2304 = omega arith in
     let f = c .before .loop .inv .1 in
-    fresh-holds _ _ (c .before .loop .state) (rw all at f) (omega arith) (omega arith)))
+    fresh-holds _ _ (c .before .loop .state) (rw all at f)))
