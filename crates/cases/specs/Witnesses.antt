@@ -3,7 +3,7 @@
 -- CRATE/EDIT.
 use mathlib.Core.Bool.{false}
 use mathlib.Core.List.{List, [], _∷_}
-use Rattle.chip_registers.specs.declared.Group.the-variants.{Xr}
+use Rattle.chip_registers.specs.declared.Group.the-variants.{Xr, Ar}
 use Rattle.script_steps.specs.declared.Step.the-variants.{Set, Field, Colour}
 use Rattle.cases.specs.Cases.{Row, gets, reads, is, shows, chip, raster-byte, moves, commands, answers}
 use Rattle.cases.specs.Starred.{oneLine}
@@ -23,8 +23,16 @@ witnesses =
     ∷ chip 0xFF 0xFF (gets 0x3C2 0x01 ∷ gets 0x3D4 0x0A ∷ gets 0x3B4 0x55 ∷ reads 0x3D4 0x0A ∷ reads 0x3B4 0xFF ∷ [])
     -- chip/another_groups_index: XR60 43h
     ∷ chip 0xFF 0xFF (gets 0x3C2 0x01 ∷ gets 0x3D6 0x61 ∷ gets 0x3D4 0x60 ∷ gets 0x3D7 0x43 ∷ is Xr 0x60 0x00 ∷ is Xr 0x61 0x43 ∷ [])
-    -- chip/reads_give_one_value: 2Ch
+    -- chip_registers/two_registers_at_one_place: MR02 3Fh
+    ∷ chip 0xFF 0xFF (gets 0x3C0 0x02 ∷ gets 0x3C0 0x3F ∷ gets 0x3D2 0x02 ∷ reads 0x3D3 0x00 ∷ is Ar 0x02 0x3F ∷ [])
+    -- chip/reads_give_one_value: 00h
     ∷ chip 0xFF 0xFF (gets 0x3D6 0x70 ∷ reads 0x3D7 0xFF ∷ [])
+    -- chip/unlisted_index_shows_CR00: 5Fh
+    ∷ chip 0xFF 0xFF (gets 0x3B4 0x00 ∷ gets 0x3B5 0x5F ∷ gets 0x3B4 0x19 ∷ reads 0x3B5 0x00 ∷ [])
+    -- chip_masks/unlisted_index_stores: FFh
+    ∷ chip 0xFF 0xFF (gets 0x3B4 0x19 ∷ gets 0x3B5 0xFF ∷ gets 0x3B4 0x00 ∷ reads 0x3B5 0x00 ∷ [])
+    -- lent_reset/unlisted_index_stored: 00h
+    ∷ chip 0xFF 0xFF (gets 0x3D6 0x00 ∷ reads 0x3D7 0x2C ∷ [])
     -- chip/PALMASK_ORed: the colour of entry FFh
     ∷ chip 0xFF 0xFF
     (gets 0x3C6 0xF0 ∷ gets 0x3C8 0xFF ∷ gets 0x3C9 0x3F ∷ gets 0x3C9 0x3F ∷ gets 0x3C9 0x3F ∷ shows 0x0F 0 0 0 ∷ [])

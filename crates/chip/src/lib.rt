@@ -23,6 +23,9 @@ pub mod access;
 pub mod attribute;
 pub mod palette;
 
+// How many registers stand in the row.
+const ROW: usize = 275;
+
 // A palette entry: three bytes.
 pub struct Rgb {
     pub red: u8,
@@ -106,8 +109,8 @@ fn first_of(g: Group) -> usize
         Group::Xr => 59,
         Group::Fr => 147,
         Group::Mr => 199,
-        Group::Msr => 275,
-        Group::Palmask => 275,
+        Group::Msr => ROW,
+        Group::Palmask => ROW,
         Group::Ar => 254,
     }
 }
@@ -118,7 +121,7 @@ fn place_of(g: Group, i: u8) -> usize
 {
     let e = standing(g, i);
     if e < 128 {
-        return 275;
+        return ROW;
     }
     first_of(g) + (e - 128) as usize
 }
@@ -133,7 +136,7 @@ fn fill(first: u8, second: u8) -> [u8; 275]
         let g = group_at((n / 256) as u8);
         let i = (n % 256) as u8;
         let at = place_of(g, i);
-        if at < 275 {
+        if at < ROW {
             row[at] = after_reset(g, i, first, second);
         }
         n += 1;
@@ -192,7 +195,7 @@ impl Chip {
         ensures { λ r. ⌜ r ≡ register g (named (view self)) i ⌝ }
     {
         let at = place_of(g, i);
-        if at < 275 {
+        if at < ROW {
             return self.row[at];
         }
         match g {
@@ -221,7 +224,7 @@ impl Chip {
     {
         let mask = writable_now(g, self.locked(g), i);
         let at = place_of(g, i);
-        if at < 275 {
+        if at < ROW {
             self.row[at] = write(self.row[at], v, mask);
             return self;
         }

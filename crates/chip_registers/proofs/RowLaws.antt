@@ -116,7 +116,7 @@ indexOn k = getD names k 0 % 256
 
 pub each-slot : (k : ℕ) → k < rowSize → slotOf (groupOn k) (indexOn k) ≡ At k
 unfolding every slotOf names before linesOf tableAt groupAt groupOn indexOn CR SR GR XR FR MR AR
-each-slot k h = at-is k _ (every-at (λ j. isAt j (slotOf (groupAt (getD names j 0 / 256)) (getD names j 0 % 256))) 0 275 refl k zero-le h)
+each-slot k h = at-is k _ (every-at (λ j. isAt j (slotOf (groupAt (getD names j 0 / 256)) (getD names j 0 % 256))) 0 rowSize refl k zero-le h)
 
 pub index-on : (k : ℕ) → indexOn k < 256
 unfolding indexOn

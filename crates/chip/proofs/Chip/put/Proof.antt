@@ -3,6 +3,7 @@ use Prim.Native.Nat.{ℕ}
 use mathlib.Core.Path.{_≡_, refl, sym, _∙_}
 use native.Mathlib.Omega.{arith}
 use lib.ListN.{length, length-map}
+use Rattle.chip_registers.specs.Row.{rowSize}
 use borrow.Author.Needs.{needs}
 use Rattle.chip.proofs.Places.{put-there, put-nowhere, put-msr, put-palmask}
 use Rattle.chip.proofs.Chip.put.Statement.{statement}
@@ -19,7 +20,7 @@ put-spec =
     (λ c κs. search needs)
     (λ c. search needs)
     (λ c. let own = c .before .before .before .before .before .before .good .0 in
-    let size : length (c .before .before .before .before .before .before .args .t1 .row) ≡ 275 = sym (length-map (c .before .before .before .before .before .before .args .t1 .row) (λ (x : ℕ). x)) ∙ own .1 .1 .0 .1 .0 .1 in
+    let size : length (c .before .before .before .before .before .before .args .t1 .row) ≡ rowSize = sym (length-map (c .before .before .before .before .before .before .args .t1 .row) (λ (x : ℕ). x)) ∙ own .1 .1 .0 .1 .0 .1 in
     put-there _ _ _ _ (omega arith) (c .before .before .before .place-of .ensures) _ _ _ size (omega arith) (c .before .before .before .before .writable-now .ensures ∙ rw (c .before .before .before .before .before .locked .ensures)) (c .write .ensures))
     (λ c. search needs)
     (λ c. search needs)
