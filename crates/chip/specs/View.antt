@@ -2,8 +2,8 @@
 -- order of the tables (`slotOf` of crate `chip_registers` says where each stands). The arrangement of which every definition
 -- speaks has a table of 256 for each group: `view` fills each from the row, with 00h where an index is not listed. A kept state
 -- and a state match when the one shows the other. What is shown decides what is kept (law `view-decides`), and every state that
--- accesses reach is shown (law `reached-shown`): proofs/ViewLaws. Every contract of this crate says what is shown afterwards by
--- what was shown before: from matching states to matching states.
+-- accesses reach is shown (law `reached-shown`): proofs/ViewLaws and KeptLaws. Every contract of this crate says what is shown
+-- afterwards by what was shown before: from matching states to matching states.
 use Prim.Native.Nat.{ℕ}
 use mathlib.Core.Bool.{true}
 use mathlib.Core.Path.{_≡_}

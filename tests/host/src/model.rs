@@ -1,5 +1,5 @@
-//! The chip, written from documents 01 and 02 (P1, P2) and from nothing else of this repository but the independent reading of
-//! the databook, tests/registers.csv, from which the rows of registers are taken.
+//! The chip, written from documents 01 and 02 (P1, P2, P5, P7) and from nothing else of this repository but the independent reading
+//! of the databook, tests/registers.csv, from which the rows of registers are taken.
 
 use std::collections::HashMap;
 
