@@ -22,13 +22,13 @@ use Rattle.chip.specs.State.{Chip, Named, named, withNamed, withLoading,
 use Rattle.chip.specs.Names.{register, locked, writableAt, received, portsOpen, picks3Dx}
 use Rattle.chip.specs.Palette.{loaded, coloured, moved}
 use Rattle.chip.specs.Attribute.{attributeSet, attributeAimed, turnReturned}
-use Rattle.chip.specs.Access.{writeTo, readFrom, portWritten, portRead, wrote, seen}
+use Rattle.chip.specs.Access.{writeTo, readFrom, portWritten, portRead, untold, told, seen}
 use Rattle.chip.specs.declared.access.Answer.the-variants.{Done, Closed}
 use Rattle.chip.proofs.NameLaws.{Bytes, received-bytes, received-keeps-bit, coloured-keeps-register, picture-keeps-register}
 
 -- where the ports are closed nothing is read and nothing changes
 module _ (c : Chip) (p : ℕ) (shut : portsOpen (named c) ≡ false) where
-  pub write-closed : (v : ℕ) → portWritten c p v ≡ wrote Closed c
+  pub write-closed : (v : ℕ) → portWritten c p v ≡ untold Closed c
   unfolding portWritten
   write-closed v = rw shut
 
@@ -48,7 +48,7 @@ module _ (c : Chip) (p : ℕ) (free : portsOpen (named c) ≡ true) where
 
   -- a data port works on the register at the group's index, as by name
   pub write-data : (g : Group) (v : ℕ) → target (picks3Dx (named c)) true p ≡ Data g
-      → portWritten c p v ≡ wrote Done (withNamed c (received g (named c) (indexOf g (c .indexes)) v))
+      → portWritten c p v ≡ told g (indexOf g (c .indexes)) c (withNamed c (received g (named c) (indexOf g (c .indexes)) v))
   write-data g v leads = write-open v ∙ rw leads refl
 
   pub read-data : (g : Group) → target (picks3Dx (named c)) false p ≡ Data g → portRead c p ≡ seen Done (register g (named c) (indexOf g (c .indexes))) c
@@ -59,7 +59,7 @@ pub write-cases : (P : Chip → Type 0) (c : Chip) (p v : ℕ) → P c → ((t :
 unfolding portWritten
 write-cases P c p v same at = go (portsOpen (named c))
   where
-    go : (z : Bool) → P (cond z (writeTo (target (picks3Dx (named c)) true p) c v) (wrote Closed c) .chip)
+    go : (z : Bool) → P (cond z (writeTo (target (picks3Dx (named c)) true p) c v) (untold Closed c) .chip)
     go true = at (target (picks3Dx (named c)) true p)
     go false = same
 
@@ -98,7 +98,7 @@ module _ (P : Named → Type 0) (c : Chip) (v : ℕ)
   named-loaded true = store (c .loading .index) (c .loading .red) (c .loading .green) v
   named-loaded false = same
 
-  named-attribute : (z : Bool) → P (named (cond z (attributeSet c v) (attributeAimed c v)))
+  named-attribute : (z : Bool) → P (named (cond z (told Ar (indexOf Ar (c .indexes)) c (attributeSet c v)) (untold Done (attributeAimed c v)) .chip))
   named-attribute true = set Ar
   named-attribute false = light _
 

@@ -13,21 +13,28 @@ use Rattle.chip_registers.specs.declared.Group.the-variants.{Ar}
 use Rattle.chip_ports.specs.Ports.{ports, target}
 use Rattle.chip.specs.State.{Chip, named, join, withPicture, withTurn, indexOf, withIndex}
 use Rattle.chip.specs.Names.{register, received, portsOpen, picks3Dx}
-use Rattle.chip.specs.Attribute.{attributeIndex, attributeAimed, attributeSet, attributeWritten, turnReturned}
-use Rattle.chip.specs.Access.{Seen, Wrote, portWritten, portRead, wrote, seen}
+use Rattle.chip.specs.Attribute.{attributeIndex, attributeAimed, attributeSet, turnReturned}
+use Rattle.chip.specs.Access.{Seen, Wrote, attributeWrote, portWritten, portRead, untold, told, seen}
 use Rattle.chip.specs.declared.access.Answer.the-variants.{Done, Unlisted}
 use Rattle.chip.proofs.AccessLaws.{write-open, read-open}
 
+-- by the turn: the register at the index receives the byte, or the index is written
+pub attribute-data : (c : Chip) (v : ℕ) → c .indexes .turn ≡ true → attributeWrote c v ≡ told Ar (indexOf Ar (c .indexes)) c (attributeSet c v)
+attribute-data c v turn = rw turn
+
+pub attribute-index : (c : Chip) (v : ℕ) → c .indexes .turn ≡ false → attributeWrote c v ≡ untold Done (attributeAimed c v)
+attribute-index c v turn = rw turn
+
 module _ (c : Chip) (free : portsOpen (named c) ≡ true) where
-  pub attribute-written : (v : ℕ) → portWritten c 0x3C0 v ≡ wrote Done (attributeWritten c v)
+  pub attribute-written : (v : ℕ) → portWritten c 0x3C0 v ≡ attributeWrote c v
   unfolding target ports
   attribute-written v = write-open c 0x3C0 free v
 
-  pub attribute-aimed : (v : ℕ) → c .indexes .turn ≡ false → portWritten c 0x3C0 v ≡ wrote Done (attributeAimed c v)
-  attribute-aimed v turn = attribute-written v ∙ rw turn
+  pub attribute-aimed : (v : ℕ) → c .indexes .turn ≡ false → portWritten c 0x3C0 v ≡ untold Done (attributeAimed c v)
+  attribute-aimed v turn = attribute-written v ∙ attribute-index c v turn
 
-  pub attribute-set : (v : ℕ) → c .indexes .turn ≡ true → portWritten c 0x3C0 v ≡ wrote Done (attributeSet c v)
-  attribute-set v turn = attribute-written v ∙ rw turn
+  pub attribute-set : (v : ℕ) → c .indexes .turn ≡ true → portWritten c 0x3C0 v ≡ told Ar (indexOf Ar (c .indexes)) c (attributeSet c v)
+  attribute-set v turn = attribute-written v ∙ attribute-data c v turn
 
   pub attribute-index-read : portRead c 0x3C0 ≡ seen Done (attributeIndex c) c
   unfolding target ports
@@ -50,14 +57,14 @@ module _ (c : Chip) (free : portsOpen (named c) ≡ true) where
 
   -- the other directions are not listed
   pub attribute-not-written : (v : ℕ)
-      → (portWritten c 0x3C1 v ≡ wrote Unlisted c) × (portWritten c 0x3BA v ≡ wrote Unlisted c) × (portWritten c 0x3DA v ≡ wrote Unlisted c)
+      → (portWritten c 0x3C1 v ≡ untold Unlisted c) × (portWritten c 0x3BA v ≡ untold Unlisted c) × (portWritten c 0x3DA v ≡ untold Unlisted c)
   unfolding target ports
   attribute-not-written v = (write-open c 0x3C1 free v, write-open c 0x3BA free v, write-open c 0x3DA free v)
 
   -- an index and then a byte, from the index's turn: a write by name, under the picture that the index brings
   pub attribute-by-port : (v b : ℕ) → c .indexes .turn ≡ false
       → portWritten (portWritten c 0x3C0 v .chip) 0x3C0 b
-      ≡ wrote Done (join (received Ar (withPicture (named c) (isSet 5 v)) (v % 32) b) (withTurn (withIndex Ar (c .indexes) v) false) (c .loading))
+      ≡ told Ar (v % 32) (attributeAimed c v) (join (received Ar (withPicture (named c) (isSet 5 v)) (v % 32) b) (withTurn (withIndex Ar (c .indexes) v) false) (c .loading))
   unfolding portsOpen target ports indexKept
   attribute-by-port v b turn =
       let five : v % 32 % 32 ≡ v % 32 = omega arith in

@@ -19,7 +19,7 @@ use Rattle.chip_ports.specs.Ports.{ports, target}
 use Rattle.chip_ports.specs.declared.Target.the-variants.{Index, Data}
 use Rattle.chip.specs.State.{Chip, Named, named, join, withNamed, withIndexes, withTurn, indexByte, withIndexByte, indexOf, withIndex}
 use Rattle.chip.specs.Names.{locked, received, portsOpen, picks3Dx}
-use Rattle.chip.specs.Access.{Seen, portWritten, portRead, wrote, seen}
+use Rattle.chip.specs.Access.{Seen, portWritten, portRead, untold, told, seen}
 use Rattle.chip.specs.declared.Indexes.{Indexes}
 use Rattle.chip.specs.declared.access.Answer.the-variants.{Done}
 use Rattle.chip.proofs.NameLaws.{received-bit, received-other}
@@ -74,7 +74,7 @@ index-turn Ar x turn = refl
 
 -- through the ports: what a write to an index port leaves, and what index ports read then
 module _ (c : Chip) (p v : ℕ) (g : Group) (free : portsOpen (named c) ≡ true) (writes : target (picks3Dx (named c)) true p ≡ Index g) where
-  pub write-index : portWritten c p v ≡ wrote Done (withIndexes c (withIndex g (c .indexes) v))
+  pub write-index : portWritten c p v ≡ untold Done (withIndexes c (withIndex g (c .indexes) v))
   write-index = write-open c p free v ∙ rw writes refl
 
   now-reads : (q : ℕ) (h : Group) → target (picks3Dx (named c)) false q ≡ Index h
@@ -93,22 +93,22 @@ module _ (c : Chip) (p v : ℕ) (g : Group) (free : portsOpen (named c) ≡ true
   -- an index and then a byte: the register at the bits that are kept receives the byte, as by name
   pub register-by-ports : (q b : ℕ) → target (picks3Dx (named c)) true q ≡ Data g
       → portWritten (portWritten c p v .chip) q b
-      ≡ wrote Done (join (received g (named c) (indexKept g v) b) (withIndex g (c .indexes) v) (c .loading))
+      ≡ told g (indexKept g v) c (join (received g (named c) (indexKept g v) b) (withIndex g (c .indexes) v) (c .loading))
   register-by-ports q b data-port =
       rw write-index (write-data (withIndexes c (withIndex g (c .indexes) v)) q free g b data-port)
-      ∙ ap (λ (i : ℕ). wrote Done (join (received g (named c) i b) (withIndex g (c .indexes) v) (c .loading))) (index-same g (c .indexes) v)
+      ∙ ap (λ (i : ℕ). told g i c (join (received g (named c) i b) (withIndex g (c .indexes) v) (c .loading))) (index-same g (c .indexes) v)
 
 -- a long index folds onto a short one
 pub index-folds : (c : Chip) (p v : ℕ) (g : Group) → portsOpen (named c) ≡ true → target (picks3Dx (named c)) true p ≡ Index g
     → portWritten c p v ≡ portWritten c p (indexKept g v)
 index-folds c p v g free writes =
-    write-index c p v g free writes ∙ ap (λ (x : Indexes). wrote Done (withIndexes c x)) (sym (index-kept g (c .indexes) v))
+    write-index c p v g free writes ∙ ap (λ (x : Indexes). untold Done (withIndexes c x)) (sym (index-kept g (c .indexes) v))
     ∙ sym (write-index c p (indexKept g v) g free writes)
 
 -- the pair that MSR bit 0 does not pick reads FFh and writes nothing, its index port like its data port
 pub pair-not-picked : (c : Chip) → portsOpen (named c) ≡ true → (b : Bool) → picks3Dx (named c) ≡ b → (v : ℕ)
-    → (portRead c (cond b 0x3B4 0x3D4) ≡ seen Done 0xFF c) × (portWritten c (cond b 0x3B4 0x3D4) v ≡ wrote Done c)
-    × (portRead c (cond b 0x3B5 0x3D5) ≡ seen Done 0xFF c) × (portWritten c (cond b 0x3B5 0x3D5) v ≡ wrote Done c)
+    → (portRead c (cond b 0x3B4 0x3D4) ≡ seen Done 0xFF c) × (portWritten c (cond b 0x3B4 0x3D4) v ≡ untold Done c)
+    × (portRead c (cond b 0x3B5 0x3D5) ≡ seen Done 0xFF c) × (portWritten c (cond b 0x3B5 0x3D5) v ≡ untold Done c)
 unfolding target ports
 pair-not-picked c free true picks v =
     (read-open c 0x3B4 free ∙ rw picks, write-open c 0x3B4 free v ∙ rw picks, read-open c 0x3B5 free ∙ rw picks, write-open c 0x3B5 free v ∙ rw picks)
@@ -134,7 +134,7 @@ MSR-picks-pair c free v b e =
     d : Chip
     d = withNamed c (received Msr (named c) 0x00 v)
 
-    written : portWritten c 0x3C2 v ≡ wrote Done d
+    written : portWritten c 0x3C2 v ≡ told Msr 0x00 c d
     written = write-open c 0x3C2 free v
 
     open-still : portsOpen (named d) ≡ true

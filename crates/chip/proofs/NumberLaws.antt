@@ -5,6 +5,7 @@ use native.Mathlib.Omega.{arith}
 use mathlib.Core.Bool.{Bool, true, false, cond}
 use mathlib.Core.Path.{_≡_, refl, ap, _∙_}
 use mathlib.Core.Logic.{_↔_}
+use Rattle.lists.proofs.Tests.{of-cond}
 use Rattle.chip_registers.proofs.Stretches.{has}
 use Rattle.chip_ports.specs.Ports.{ports, target, isListed}
 use Rattle.chip_ports.proofs.PortLaws.{listedPorts, listed-exactly, status-read-only}
@@ -12,8 +13,8 @@ use Rattle.chip_ports.specs.declared.Target.{Target}
 use Rattle.chip_ports.specs.declared.Target.the-variants.{Index, Data, ReadIndex, WriteIndex, Paldata, Attribute, Status, NotPicked, NotListed}
 use Rattle.chip.specs.State.{Chip, named}
 use Rattle.chip.specs.Names.{portsOpen, picks3Dx}
-use Rattle.chip.specs.Access.{Seen, Wrote, answerNumber, accessTable, writeTo, readFrom, portWritten, portRead, wrote, seen}
-use Rattle.chip.specs.declared.access.Answer.the-variants.{Unlisted, Closed}
+use Rattle.chip.specs.Access.{Seen, Wrote, answerNumber, accessTable, writeTo, readFrom, portWritten, portRead, untold, seen}
+use Rattle.chip.specs.declared.access.Answer.the-variants.{Done, Unlisted, Closed}
 use Rattle.chip.proofs.AccessLaws.{write-closed, read-closed, write-open, read-open}
 
 -- the number by where a port leads; no write leads to the status
@@ -23,7 +24,11 @@ written-number (Data g) c v other = refl
 written-number ReadIndex c v other = refl
 written-number WriteIndex c v other = refl
 written-number Paldata c v other = refl
-written-number Attribute c v other = refl
+written-number Attribute c v other = ap answerNumber (of-cond (λ (w : Wrote). w .answer) (c .indexes .turn) _ _) ∙ same (c .indexes .turn)
+  where
+    same : (z : Bool) → answerNumber (cond z Done Done) ≡ 0
+    same true = refl
+    same false = refl
 written-number Status c v other = absurd (other refl)
 written-number NotPicked c v other = refl
 written-number NotListed c v other = refl
@@ -58,7 +63,7 @@ write-number c p v = go (portsOpen (named c))
     t : Target
     t = target (picks3Dx (named c)) true p
 
-    go : (z : Bool) → answerNumber (cond z (writeTo t c v) (wrote Closed c) .answer) ≡ cond z (cond (isListed t) 0 1) 2
+    go : (z : Bool) → answerNumber (cond z (writeTo t c v) (untold Closed c) .answer) ≡ cond z (cond (isListed t) 0 1) 2
     go true = written-number t c v (status-read-only (picks3Dx (named c)) p)
     go false = refl
 
@@ -73,10 +78,7 @@ read-number c p = go (portsOpen (named c))
     go true = seen-number t c
     go false = refl
 
--- what the contracts of `write` and `read` say, from the one equation
-pub write-answered : (c : Chip) (p v : ℕ) {r : Wrote} → r ≡ portWritten c p v → (r ≡ portWritten c p v) × (answerNumber (r .answer) ≡ accessTable true c p)
-write-answered c p v e = (e, ap (λ (w : Wrote). answerNumber (w .answer)) e ∙ write-number c p v)
-
+-- what the contract of `read` says, from the one equation
 pub read-answered : (c : Chip) (p : ℕ) {r : Seen} → r ≡ portRead c p → (r ≡ portRead c p) × (answerNumber (r .answer) ≡ accessTable false c p)
 read-answered c p e = (e, ap (λ (s : Seen). answerNumber (s .answer)) e ∙ read-number c p)
 
@@ -128,7 +130,7 @@ pub read-exact : (c : Chip) (p : ℕ) → Exact false c p (answerNumber (portRea
 read-exact c p = rw (read-number c p) (number-exact false c p)
 
 -- a refused access hands back the state as it was, and a refused read FFh
-refused : (write : Bool) (c : Chip) (p : ℕ) (A : Type 0) → (accessTable write c p ≡ 0 → ⊥)
+pub refused : (write : Bool) (c : Chip) (p : ℕ) (A : Type 0) → (accessTable write c p ≡ 0 → ⊥)
     → (portsOpen (named c) ≡ false → A) → (portsOpen (named c) ≡ true → target (picks3Dx (named c)) write p ≡ NotListed → A) → A
 unfolding accessTable
 refused write c p A no-zero shut unlisted = go (portsOpen (named c)) refl (isListed t) refl no-zero
@@ -152,6 +154,6 @@ read-refused c p other =
     (λ free unlisted. rw (read-open c p free, unlisted) (refl, refl))
 
 -- MSR is written at 3C2h and read at 3CCh: the other direction of each is refused with 1
-pub MSR-one-way : (c : Chip) → portsOpen (named c) ≡ true → (v : ℕ) → (portRead c 0x3C2 ≡ seen Unlisted 0xFF c) × (portWritten c 0x3CC v ≡ wrote Unlisted c)
+pub MSR-one-way : (c : Chip) → portsOpen (named c) ≡ true → (v : ℕ) → (portRead c 0x3C2 ≡ seen Unlisted 0xFF c) × (portWritten c 0x3CC v ≡ untold Unlisted c)
 unfolding target ports
 MSR-one-way c free v = (read-open c 0x3C2 free, write-open c 0x3CC free v)

@@ -8,20 +8,21 @@ use mathlib.Core.List.{[], _∷_}
 use lib.Dec.{eqb}
 use borrow.Author.Tests.{ne-eqb}
 use Rattle.lists.specs.Bits.{isSet}
+use Rattle.chip_registers.specs.declared.Group.the-variants.{Ar}
 use Rattle.chip_registers.proofs.Stretches.{has}
 use Rattle.chip_ports.specs.Ports.{ports, target}
 use Rattle.chip_ports.specs.declared.Target.{Target}
 use Rattle.chip_ports.specs.declared.Target.the-variants.{Index, Data, ReadIndex, WriteIndex, Paldata, Attribute, Status, NotPicked, NotListed}
 use Rattle.chip_ports.proofs.PortLaws.{holds, target-elsewhere}
-use Rattle.chip.specs.State.{Chip, named, withLoading}
+use Rattle.chip.specs.State.{Chip, named, withLoading, indexOf}
 use Rattle.chip.specs.Names.{portsOpen, picks3Dx}
 use Rattle.chip.specs.Palette.{coloured, aimed, held, moved, palstate}
 use Rattle.chip.specs.Attribute.{attributeSet, attributeAimed}
-use Rattle.chip.specs.Access.{Seen, Wrote, writeTo, portWritten, portRead, wrote}
+use Rattle.chip.specs.Access.{Seen, Wrote, writeTo, portWritten, portRead, told, untold}
 use Rattle.chip.specs.Reset.{reset}
 use Rattle.chip.specs.Reach.{fresh}
 use Rattle.chip.specs.declared.Loading.{Loading}
-use Rattle.chip.specs.declared.access.Answer.the-variants.{Closed}
+use Rattle.chip.specs.declared.access.Answer.the-variants.{Done, Closed}
 use Rattle.chip.proofs.AccessLaws.{read-open, state-read}
 use Rattle.chip.proofs.PaletteLaws.{write-index-written, read-index-written, after, read, colour-by-ports, colour-read-by-ports}
 use Rattle.chip.proofs.ReachLaws.{ports-stay}
@@ -98,7 +99,7 @@ target-state WriteIndex c v other = cc
 target-state Paldata c v other = moved-state (held (c .loading) v) ∙ held-state (c .loading) v
 target-state Attribute c v other = go (c .indexes .turn)
   where
-    go : (z : Bool) → cond z (attributeSet c v) (attributeAimed c v) .loading .reading ≡ c .loading .reading
+    go : (z : Bool) → cond z (told Ar (indexOf Ar (c .indexes)) c (attributeSet c v)) (untold Done (attributeAimed c v)) .chip .loading .reading ≡ c .loading .reading
     go true = refl
     go false = refl
 target-state Status c v other = refl
@@ -117,7 +118,7 @@ PALSTATE-kept-by-write c p v read-index write-index = let same = go (portsOpen (
     elsewhere : has p (0x3C7 ∷ 0x3C8 ∷ []) ≡ false
     elsewhere = rw (ne-eqb p 0x3C7 read-index, ne-eqb p 0x3C8 write-index)
 
-    go : (z : Bool) → cond z (writeTo (target (picks3Dx (named c)) true p) c v) (wrote Closed c) .chip .loading .reading ≡ c .loading .reading
+    go : (z : Bool) → cond z (writeTo (target (picks3Dx (named c)) true p) c v) (untold Closed c) .chip .loading .reading ≡ c .loading .reading
     go true =
         target-state (target (picks3Dx (named c)) true p) c v
         (target-elsewhere (λ t. not (aims t)) (0x3C7 ∷ 0x3C8 ∷ []) (picks3Dx (named c)) true p (aims-there (picks3Dx (named c))) elsewhere)

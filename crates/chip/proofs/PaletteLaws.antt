@@ -19,7 +19,7 @@ use Rattle.chip_ports.specs.Ports.{ports, target}
 use Rattle.chip.specs.State.{Chip, Named, named, join, withIndex, withLoading}
 use Rattle.chip.specs.Names.{locked, received, portsOpen, eightBit}
 use Rattle.chip.specs.Palette.{rgb, byMode, entry, coloured, aimed, held, moved, loaded, paldata}
-use Rattle.chip.specs.Access.{Seen, Wrote, portWritten, portRead, wrote, seen}
+use Rattle.chip.specs.Access.{Seen, Wrote, portWritten, portRead, untold, seen}
 use Rattle.chip.specs.declared.Indexes.{Indexes}
 use Rattle.chip.specs.declared.Loading.{Loading}
 use Rattle.chip.specs.declared.access.Answer.the-variants.{Done}
@@ -38,15 +38,15 @@ unfolding coloured
 coloured-other n e r g b k h = getD-set-other (n .palette) e k _ (rgb 0 0 0) h
 
 module _ (n : Named) (x : Indexes) (l : Loading) (v : ℕ) (free : portsOpen n ≡ true) where
-  pub write-index-written : portWritten (join n x l) 0x3C8 v ≡ wrote Done (join n x (aimed l v false))
+  pub write-index-written : portWritten (join n x l) 0x3C8 v ≡ untold Done (join n x (aimed l v false))
   unfolding target ports
   write-index-written = write-open (join n x l) 0x3C8 free v
 
-  pub read-index-written : portWritten (join n x l) 0x3C7 v ≡ wrote Done (join n x (aimed l v true))
+  pub read-index-written : portWritten (join n x l) 0x3C7 v ≡ untold Done (join n x (aimed l v true))
   unfolding target ports
   read-index-written = write-open (join n x l) 0x3C7 free v
 
-  pub paldata-written : portWritten (join n x l) 0x3C9 v ≡ wrote Done (join (loaded n l v) x (moved (held l v)))
+  pub paldata-written : portWritten (join n x l) 0x3C9 v ≡ untold Done (join (loaded n l v) x (moved (held l v)))
   unfolding target ports
   paldata-written = write-open (join n x l) 0x3C9 free v
 
@@ -167,7 +167,7 @@ module _ (l : Loading) (e : ℕ) (reading : Bool) where
 
 -- 3C7h gets an entry, then 3C9h is read three times, with nothing between: from any state with open ports
 module _ (c : Chip) (e : ℕ) (free : portsOpen (named c) ≡ true) where
-  aim-read : portWritten c 0x3C7 e ≡ wrote Done (join (named c) (c .indexes) (at (c .loading) e true 0))
+  aim-read : portWritten c 0x3C7 e ≡ untold Done (join (named c) (c .indexes) (at (c .loading) e true 0))
   aim-read = read-index-written (named c) (c .indexes) (c .loading) e free
 
   pub colour-read-by-ports :

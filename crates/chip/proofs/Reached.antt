@@ -8,12 +8,12 @@ use Rattle.chip_ports.specs.Ports.{target}
 use Rattle.chip_ports.specs.declared.Target.{Target}
 use Rattle.chip.specs.State.{Chip, named}
 use Rattle.chip.specs.Names.{portsOpen, picks3Dx}
-use Rattle.chip.specs.Access.{portWritten, portRead, writeTo, readFrom, wrote, seen}
+use Rattle.chip.specs.Access.{portWritten, portRead, writeTo, readFrom, untold, seen}
 use Rattle.chip.specs.declared.access.Answer.the-variants.{Closed}
 
 module _ (c : Chip) (p : ℕ) {answers : Bool} (is : answers ≡ portsOpen (named c)) where
   module _ (shut : not answers ≡ true) where
-    pub closed-write : (v : ℕ) → wrote Closed c ≡ portWritten c p v
+    pub closed-write : (v : ℕ) → untold Closed c ≡ portWritten c p v
     unfolding portWritten
     closed-write v = rw (← is, not-true answers shut)
 

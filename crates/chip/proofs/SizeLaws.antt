@@ -27,9 +27,10 @@ use Rattle.chip.specs.State.{Chip, Named, named, indexByte, indexOf, wit
 use Rattle.chip.specs.Names.{register, received, locked, writableAt, portsOpen, picks3Dx, eightBit}
 use Rattle.chip.specs.Palette.{rgb, byMode, entry, coloured, held, moved}
 use Rattle.chip.specs.Attribute.{attributeSet, attributeAimed}
-use Rattle.chip.specs.Access.{Seen, writeTo, portWritten}
+use Rattle.chip.specs.Access.{Seen, writeTo, portWritten, told, untold}
 use Rattle.chip.specs.Reset.{resetByte, reset}
 use Rattle.chip.specs.Reach.{Reach, fresh, wrote, saw}
+use Rattle.chip.specs.declared.access.Answer.the-variants.{Done}
 use Rattle.chip.specs.declared.Indexes.{Indexes}
 use Rattle.chip.specs.declared.Loading.{Loading}
 use Rattle.chip.specs.declared.Rgb.{Rgb}
@@ -105,7 +106,7 @@ moved-below l h = either (eqb (l .position) 2) _ _ (omega arith) h
 held-below : (l : Loading) (v : ℕ) → l .index < 0x100 → held l v .index < 0x100
 held-below l v h = either (eqb (l .position) 2) _ _ h (either (eqb (l .position) 1) _ _ h h)
 
-attribute-within : (c : Chip) (v : ℕ) → Within c → (z : Bool) → Within (cond z (attributeSet c v) (attributeAimed c v))
+attribute-within : (c : Chip) (v : ℕ) → Within c → (z : Bool) → Within (cond z (told Ar (indexOf Ar (c .indexes)) c (attributeSet c v)) (untold Done (attributeAimed c v)) .chip)
 attribute-within c v w true = record { groups = λ h. rw (index-turn h (c .indexes) false) (w .groups h); colours = w .colours }
 attribute-within c v w false = record {
   groups = λ h. rw (index-turn h (withIndex Ar (c .indexes) v) true) (index-fits Ar h (c .indexes) v (w .groups h));

@@ -88,6 +88,10 @@ pub loading-shown : (f : Kept) → view f .loading ≡ f .loading
 unfolding view
 loading-shown f = refl
 
+pub indexes-shown : (f : Kept) → view f .indexes ≡ f .indexes
+unfolding view
+indexes-shown f = refl
+
 -- ---- a byte stored in the row
 
 -- what is kept, with another row

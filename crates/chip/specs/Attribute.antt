@@ -21,10 +21,6 @@ attributeAimed c v = join (withPicture (named c) (isSet 5 v)) (withTurn (withInd
 abbrev pub attributeSet : Chip → ℕ → Chip
 attributeSet c v = join (received Ar (named c) (indexOf Ar (c .indexes)) v) (withTurn (c .indexes) false) (c .loading)
 
--- a byte is written to 3C0h
-abbrev pub attributeWritten : Chip → ℕ → Chip
-attributeWritten c v = cond (c .indexes .turn) (attributeSet c v) (attributeAimed c v)
-
 -- input status 1 is read
 abbrev pub turnReturned : Chip → Chip
 turnReturned c = withIndexes c (withTurn (c .indexes) false)

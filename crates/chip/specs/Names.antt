@@ -23,6 +23,11 @@ register Msr n i = n .msr
 register Palmask n i = n .palmask
 register Ar n i = getD (n .ar) i 0
 
+-- what a register reads as: its stored bits, in every register. A definition that asks what is read says this, one that asks what
+-- is stored says `register`
+abbrev pub readByte : Group → Named → ℕ → ℕ
+readByte g n i = register g n i
+
 -- the same with one register's byte replaced
 abbrev pub replaced : Group → Named → ℕ → ℕ → Named
 replaced g n i b = record {

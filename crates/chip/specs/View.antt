@@ -54,7 +54,7 @@ view k = record {
 
 -- what an access hands back, as it is shown
 abbrev pub viewWrote : KeptWrote → Wrote
-viewWrote w = wrote (w .answer) (view (w .chip))
+viewWrote w = wrote (w .answer) (w .before) (w .after) (view (w .chip))
 
 abbrev pub viewSeen : KeptSeen → Seen
 viewSeen s = seen (s .answer) (s .value) (view (s .chip))

@@ -1,9 +1,11 @@
-// Port reads and writes. Document 01, "Ports" and numbers 0, 1 and 2, and document 02, P1 and P5. A refused access
+// Port reads and writes. Document 01, "Ports" and numbers 0, 1 and 2, and document 02, P1, P5 and P6. A refused access
 // hands back the state as it was.
 ghost use mathlib.Core.Bool.{true, false};
 ghost use mathlib.Core.Path.{_≡_};
-ghost use Rattle.chip.specs.State.{named, join, indexByte, indexOf, withIndex};
-ghost use Rattle.chip.specs.Access.{answerNumber, accessTable, writeTo, readFrom, portWritten, portRead};
+ghost use Rattle.chip.specs.State.{named, join, withNamed, indexByte, indexOf, withIndex};
+ghost use Rattle.chip.specs.Names.{received};
+ghost use Rattle.chip.specs.Access.{answerNumber, accessTable, untold as untoldOf, told, writeTo, readFrom, portWritten, portRead};
+ghost use Rattle.chip.specs.Differ.{differ};
 ghost use Rattle.chip.specs.View.{view, viewWrote, viewSeen};
 use crate::Chip;
 use chip_ports::Target;
@@ -18,9 +20,13 @@ pub enum Answer {
     Closed,
 }
 
-// What a port write hands back.
+// What a port write hands back: the register's byte before and after it, FFh twice where it is refused or is of no
+// register's data, and whether it changed a register or a colour.
 pub struct Wrote {
     pub answer: Answer,
+    pub before: u8,
+    pub after: u8,
+    pub changed: bool,
     pub chip: Chip,
 }
 
@@ -39,6 +45,19 @@ pub fn number(a: Answer) -> u8
         Answer::Done => 0,
         Answer::Unlisted => 1,
         Answer::Closed => 2,
+    }
+}
+
+// A write that changes no register and no colour, and tells of none.
+pub fn untold(answer: Answer, chip: Chip) -> Wrote
+    ensures { λ r. ⌜ (viewWrote r ≡ untoldOf answer (view chip)) × (r .changed ≡ false) ⌝ }
+{
+    Wrote {
+        answer,
+        before: 0xFF,
+        after: 0xFF,
+        changed: false,
+        chip,
     }
 }
 
@@ -86,47 +105,41 @@ impl Chip {
         self
     }
 
+    // A register receives a byte, and its byte before and after is told.
+    pub fn write_data(self, g: Group, i: u8, v: u8) -> Wrote
+        ensures { λ r. ⌜ viewWrote r ≡ told g i (view self) (withNamed (view self) (received g (named (view self)) i v)) ⌝ }
+        ensures { λ r. ⌜ r .changed ≡ differ (view self) (withNamed (view self) (received g (named (view self)) i v)) ⌝ }
+    {
+        let before = self.get(g, i);
+        let next = self.put(g, i, v);
+        let after = next.get(g, i);
+        Wrote {
+            answer: Answer::Done,
+            before,
+            after,
+            changed: before != after,
+            chip: next,
+        }
+    }
+
     // A byte written where a port leads.
     fn write_to(self, t: Target, v: u8) -> Wrote
         ensures { λ r. ⌜ viewWrote r ≡ writeTo t (view self) v ⌝ }
+        ensures { λ r. ⌜ r .changed ≡ differ (view self) (writeTo t (view self) v .chip) ⌝ }
     {
         match t {
-            Target::Index(g) => Wrote {
-                answer: Answer::Done,
-                chip: self.with_index(g, v),
-            },
-            Target::Data(g) => Wrote {
-                answer: Answer::Done,
-                chip: self.put(g, self.index(g), v),
-            },
-            Target::ReadIndex => Wrote {
-                answer: Answer::Done,
-                chip: self.with_loading(self.loading.aim(v, true)),
-            },
-            Target::WriteIndex => Wrote {
-                answer: Answer::Done,
-                chip: self.with_loading(self.loading.aim(v, false)),
-            },
-            Target::Paldata => Wrote {
-                answer: Answer::Done,
-                chip: self.load(v),
-            },
-            Target::Attribute => Wrote {
-                answer: Answer::Done,
-                chip: self.write_attribute(v),
-            },
-            Target::Status => Wrote {
-                answer: Answer::Unlisted,
-                chip: self,
-            },
-            Target::NotPicked => Wrote {
-                answer: Answer::Done,
-                chip: self,
-            },
-            Target::NotListed => Wrote {
-                answer: Answer::Unlisted,
-                chip: self,
-            },
+            Target::Index(g) => untold(Answer::Done, self.with_index(g, v)),
+            Target::Data(g) => self.write_data(g, self.index(g), v),
+            Target::ReadIndex => untold(Answer::Done, self.with_loading(self.loading.aim(v, true))),
+            Target::WriteIndex => untold(
+                Answer::Done,
+                self.with_loading(self.loading.aim(v, false)),
+            ),
+            Target::Paldata => self.write_colour(v),
+            Target::Attribute => self.write_attribute(v),
+            Target::Status => untold(Answer::Unlisted, self),
+            Target::NotPicked => untold(Answer::Done, self),
+            Target::NotListed => untold(Answer::Unlisted, self),
         }
     }
 
@@ -134,12 +147,10 @@ impl Chip {
     pub fn write(self, port: u16, v: u8) -> Wrote
         ensures { λ r. ⌜ viewWrote r ≡ portWritten (view self) port v ⌝ }
         ensures { λ r. ⌜ answerNumber (r .answer) ≡ accessTable true (view self) port ⌝ }
+        ensures { λ r. ⌜ r .changed ≡ differ (view self) (portWritten (view self) port v .chip) ⌝ }
     {
         if !self.is_open() {
-            return Wrote {
-                answer: Answer::Closed,
-                chip: self,
-            };
+            return untold(Answer::Closed, self);
         }
         self.write_to(leads_to(self.picks_3dx(), true, port), v)
     }

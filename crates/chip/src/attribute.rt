@@ -1,10 +1,15 @@
 // Port 3C0h, which takes the attribute index and the attribute data by turns, and input status 1, which returns
-// the turn to the index. Document 02, P1; chapter 12 of the databook.
+// the turn to the index. Document 02, P1 and P6; chapter 12 of the databook.
 ghost use mathlib.Core.Path.{_≡_};
-ghost use Rattle.chip.specs.State.{withIndexes, withTurn};
-ghost use Rattle.chip.specs.Attribute.{attributeIndex, attributeAimed, attributeSet, attributeWritten};
-ghost use Rattle.chip.specs.View.{view};
+ghost use Rattle.chip.specs.State.{withIndexes, withTurn, indexOf};
+ghost use Rattle.chip.specs.Attribute.{attributeIndex, attributeAimed, attributeSet};
+ghost use Rattle.chip.specs.Access.{told, attributeWrote};
+ghost use Rattle.chip.specs.Differ.{differ};
+ghost use Rattle.chip.specs.View.{view, viewWrote};
 use crate::Chip;
+use crate::access::Answer;
+use crate::access::Wrote;
+use crate::access::untold;
 use chip_registers::Group;
 
 impl Chip {
@@ -32,21 +37,30 @@ impl Chip {
         self.with_index(Group::Ar, v).with_turn(true)
     }
 
-    // The state after the register at the attribute index received a byte: an index comes next.
-    fn set_attribute(self, v: u8) -> Chip
-        ensures { λ r. ⌜ view r ≡ attributeSet (view self) v ⌝ }
+    // The register at the attribute index receives a byte: an index comes next.
+    fn set_attribute(self, v: u8) -> Wrote
+        ensures { λ r. ⌜ viewWrote r ≡ told Group.Ar (indexOf Group.Ar (view self .indexes)) (view self) (attributeSet (view self) v) ⌝ }
+        ensures { λ r. ⌜ r .changed ≡ differ (view self) (attributeSet (view self) v) ⌝ }
     {
-        self.put(Group::Ar, self.index(Group::Ar), v)
-            .with_turn(false)
+        let w = self.write_data(Group::Ar, self.index(Group::Ar), v);
+        let next = w.chip;
+        Wrote {
+            answer: Answer::Done,
+            before: w.before,
+            after: w.after,
+            changed: w.changed,
+            chip: next.with_turn(false),
+        }
     }
 
-    // The state after a byte is written to 3C0h.
-    pub fn write_attribute(self, v: u8) -> Chip
-        ensures { λ r. ⌜ view r ≡ attributeWritten (view self) v ⌝ }
+    // A byte is written to 3C0h.
+    pub fn write_attribute(self, v: u8) -> Wrote
+        ensures { λ r. ⌜ viewWrote r ≡ attributeWrote (view self) v ⌝ }
+        ensures { λ r. ⌜ r .changed ≡ differ (view self) (attributeWrote (view self) v .chip) ⌝ }
     {
         if self.indexes.turn {
             return self.set_attribute(v);
         }
-        self.aim_attribute(v)
+        untold(Answer::Done, self.aim_attribute(v))
     }
 }

@@ -1,11 +1,16 @@
-// The palette. Document 01, "Palette"; chapter 13 of the databook.
+// The palette. Document 01, "Palette", and document 02, P6; chapter 13 of the databook.
 ghost use mathlib.Core.Path.{_≡_};
 ghost use Rattle.chip.specs.State.{named, join, withNamed, withLoading};
 ghost use Rattle.chip.specs.Palette.{byMode, bright as brightOf, component as componentOf, entry as entryOf, coloured, shown as shownOf, aimed, held, moved, loaded, palstate as palstateOf, paldata as paldataOf};
-ghost use Rattle.chip.specs.View.{view};
+ghost use Rattle.chip.specs.Access.{writeTo};
+ghost use Rattle.chip.specs.Differ.{sameColour, differ};
+ghost use Rattle.chip.specs.View.{view, viewWrote};
+ghost use Rattle.chip_ports.specs.declared.Target.the-variants.{Paldata};
 use crate::Chip;
 use crate::Loading;
 use crate::Rgb;
+use crate::access::Answer;
+use crate::access::Wrote;
 use chip_registers::Group;
 
 // A component as a mode stores and reads it: whole, or modulo 64.
@@ -33,6 +38,13 @@ fn component(e: Rgb, position: u8) -> u8
         return e.green;
     }
     e.red
+}
+
+// Whether two entries are the same.
+pub fn is_same(a: Rgb, b: Rgb) -> bool
+    ensures { λ r. ⌜ r ≡ sameColour a b ⌝ }
+{
+    (a.red == b.red) & (a.green == b.green) & (a.blue == b.blue)
 }
 
 impl Loading {
@@ -131,6 +143,24 @@ impl Chip {
                 .with_loading(next);
         }
         self.with_loading(next)
+    }
+
+    // A byte is written to PALDATA: it tells of no register, and may change the entry at the index.
+    pub fn write_colour(self, v: u8) -> Wrote
+        ensures { λ r. ⌜ viewWrote r ≡ writeTo Paldata (view self) v ⌝ }
+        ensures { λ r. ⌜ r .changed ≡ differ (view self) (writeTo Paldata (view self) v .chip) ⌝ }
+    {
+        let e = self.loading.index;
+        let before = self.entry(e);
+        let next = self.load(v);
+        let after = next.entry(e);
+        Wrote {
+            answer: Answer::Done,
+            before: 0xFF,
+            after: 0xFF,
+            changed: !is_same(before, after),
+            chip: next,
+        }
     }
 
     // What PALSTATE reads: which of the two indexes was written last.
