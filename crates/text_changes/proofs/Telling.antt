@@ -1,5 +1,5 @@
 -- What the text does not tell is the same in both states: two states of which nothing is told have the same byte in every
--- register and the same three bytes in every palette entry; and of a state and itself nothing is told.
+-- register and the same three bytes in every palette entry. Nothing is told of two states that have, so of a state and itself.
 use Prim.Native.Nat.{ℕ, zero, suc, _<_}
 use native.Mathlib.Omega.{arith}
 use native.Mathlib.Decide.{ℕ-discrete}
@@ -16,6 +16,7 @@ use Rattle.chip.specs.declared.Rgb.{Rgb}
 use Rattle.text.specs.Ascii.{ascii}
 use Rattle.text_steps.specs.Written.{nameText, byteText}
 use Rattle.text_registers.specs.Line.{joined}
+use Rattle.text_registers.proofs.Growing.{joined-none}
 use Rattle.text_changes.specs.Changes.{registerLine, registerChange, indexes, registerAt, registersTo, groupsTo, colourLine, sameColour, colourChange, coloursTo, changed}
 
 -- ---- nothing, piece by piece
@@ -36,11 +37,6 @@ module _ (piece : ℕ → List ℕ) where
       go : Dec (k ≡ n) → (k < n → piece k ≡ []) → piece k ≡ []
       go (yes w) before = ap piece w ∙ empty-right (joined piece n) (piece n) e
       go (no w) before = before (omega arith)
-
-  joined-none : ((k : ℕ) → piece k ≡ []) → (n : ℕ) → joined piece n ≡ []
-  unfolding joined
-  joined-none each zero = refl
-  joined-none each (suc n) = rw (joined-none each n, each n)
 
 -- ---- a line that is not there
 register-silent : (g i old new : ℕ) → registerChange g i old new ≡ [] → old ≡ new
@@ -85,11 +81,40 @@ module _ (before after : Named) (silent : changed before after ≡ []) where
       let w = empty-right (groupsTo before after 9) (coloursTo before after 256) silent in
       colour-silent e _ _ (joined-empty (λ (k : ℕ). colourChange k (entry before k) (entry after k)) 256 e h w)
 
+-- ---- and back: no line for what is the same
+pub register-kept : (g i old new : ℕ) → old ≡ new → registerChange g i old new ≡ []
+unfolding registerChange
+register-kept g i old new e = rw (eq-eqb old new e)
+
+pub colour-kept : (e : ℕ) (old new : Rgb) → old ≡ new → colourChange e old new ≡ []
+unfolding colourChange sameColour
+colour-kept e old new w =
+    rw (
+      eq-eqb (old .red) (new .red) (ap (λ (c : Rgb). c .red) w),
+      eq-eqb (old .green) (new .green) (ap (λ (c : Rgb). c .green) w),
+      eq-eqb (old .blue) (new .blue) (ap (λ (c : Rgb). c .blue) w),
+    )
+
+module _ (before after : Named) where
+  pub group-silent : (g : ℕ) → ((i : ℕ) → i < indexes g → register (groupAt g) before i ≡ register (groupAt g) after i)
+      → registersTo before after g (indexes g) ≡ []
+  group-silent g same =
+      joined-none (λ (i : ℕ). registerAt before after g i) (indexes g) (λ i h. register-kept g i _ _ (same i h))
+
+  pub groups-silent : ((g i : ℕ) → g < 9 → i < indexes g → register (groupAt g) before i ≡ register (groupAt g) after i)
+      → groupsTo before after 9 ≡ []
+  groups-silent same =
+      joined-none (λ (g : ℕ). registersTo before after g (indexes g)) 9 (λ g hg. group-silent g (λ i hi. same g i hg hi))
+
+  pub colours-silent : ((e : ℕ) → e < 256 → entry before e ≡ entry after e) → coloursTo before after 256 ≡ []
+  colours-silent same =
+      joined-none (λ (e : ℕ). colourChange e (entry before e) (entry after e)) 256 (λ e h. colour-kept e _ _ (same e h))
+
+  pub changed-silent : ((g i : ℕ) → g < 9 → i < indexes g → register (groupAt g) before i ≡ register (groupAt g) after i)
+      → ((e : ℕ) → e < 256 → entry before e ≡ entry after e) → changed before after ≡ []
+  unfolding changed
+  changed-silent registers colours = rw (groups-silent registers, colours-silent colours)
+
 -- of a state and itself nothing is told
 pub changed-none : (n : Named) → changed n n ≡ []
-unfolding changed registerChange colourChange sameColour
-changed-none n =
-    rw (
-      joined-none (λ (g : ℕ). registersTo n n g (indexes g)) (λ g. joined-none (λ (i : ℕ). registerAt n n g i) (λ i. rw (eq-eqb (register (groupAt g) n i) (register (groupAt g) n i) refl)) (indexes g)) 9,
-      joined-none (λ (e : ℕ). colourChange e (entry n e) (entry n e)) (λ e. rw (eq-eqb (entry n e .red) (entry n e .red) refl, eq-eqb (entry n e .green) (entry n e .green) refl, eq-eqb (entry n e .blue) (entry n e .blue) refl)) 256,
-    )
+changed-none n = changed-silent n n (λ g i hg hi. refl) (λ e h. refl)

@@ -1,11 +1,12 @@
 -- How the text grows: nothing at first, and then one piece more, which finds its room where each is short; and how a look at
--- indexes grows, by one index.
-use Prim.Native.Nat.{ℕ, _+_, _*_, _≤_}
+-- indexes grows, by one index. Where every piece is empty so is the text, and where all but one are it is that one.
+use Prim.Native.Nat.{ℕ, zero, suc, _+_, _*_, _≤_, _<_}
+use native.Mathlib.Decide.{ℕ-discrete}
 use native.Mathlib.Numerals.{add-one}
 use native.Mathlib.Omega.{arith}
 use mathlib.Core.Bool.{false, _||_}
-use mathlib.Core.Path.{_≡_, refl, _∙_}
-use mathlib.Core.List.{List, [], _++_}
+use mathlib.Core.Path.{_≡_, refl, sym, ap, _∙_}
+use mathlib.Core.List.{List, [], _++_, append-nil}
 use lib.ListN.{length}
 use Rattle.chip_registers.specs.Groups.{rowOf}
 use Rattle.chip_registers.specs.declared.Group.{Group}
@@ -24,6 +25,21 @@ module _ (piece : ℕ → List ℕ) where
   pub joined-next : (k : ℕ) → joined piece (k + 1) ≡ joined piece k ++ piece k
   unfolding joined
   joined-next k = rw (add-one k)
+
+  -- where each is empty, and where each but one is
+  pub joined-none : (n : ℕ) → ((j : ℕ) → j < n → piece j ≡ []) → joined piece n ≡ []
+  unfolding joined
+  joined-none zero each = refl
+  joined-none (suc n) each = rw (joined-none n (λ j h. each j (omega arith)), each n (omega arith))
+
+  pub joined-one : (n k : ℕ) → k < n → ((j : ℕ) → j < n → (j ≡ k → ⊥) → piece j ≡ []) → joined piece n ≡ piece k
+  unfolding joined
+  joined-one zero k h each = absurd (omega arith)
+  joined-one (suc n) k h each = go (ℕ-discrete k n) (λ w. joined-one n k w (λ j hj. each j (omega arith)))
+    where
+      go : Dec (k ≡ n) → (k < n → joined piece n ≡ piece k) → joined piece n ++ piece n ≡ piece k
+      go (yes w) before = rw (joined-none n (λ j hj. each j (omega arith) (λ e. omega arith))) (ap piece (sym w))
+      go (no w) before = rw (before (omega arith), each n (omega arith) (λ e. w (sym e))) (append-nil (piece k))
 
 -- in an output: none of them, room for one more, and one more
 pub added-start : (piece : ℕ → List ℕ) (o : List ℕ) (at : ℕ) → Added o at (joined piece 0) o at
