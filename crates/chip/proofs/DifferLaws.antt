@@ -1,10 +1,10 @@
--- Whether a register or a colour differs, and what accesses make of it. Document 02, P6. Two states differ exactly where a name has
--- another byte or an entry another colour. A register that received a byte differs exactly where its byte before is not its byte
--- after; a stored colour where the entry is another; the picture and a read change nothing. A refused write hands back FFh twice,
--- and a data write what a read of the register shows before it and after it.
+-- Whether a register or a colour differs, and what accesses make of it. Document 02, P6. Two states differ exactly where a name
+-- has another byte or an entry another colour. A register that received a byte differs exactly where its byte before is not its
+-- byte after; a stored colour where the entry is another; the picture and a read change nothing. A refused write hands back FFh
+-- twice, and a data write what a read of the register shows before it and after it.
 use Prim.Native.Nat.{ℕ, _<_}
 use native.Mathlib.Omega.{arith}
-use mathlib.Core.Bool.{Bool, true, false, not, cond, _&&_}
+use mathlib.Core.Bool.{Bool, true, false, not, cond, _&&_, true≢false}
 use mathlib.Core.Path.{_≡_, refl, sym, ap, _∙_}
 use lib.Dec.{eqb}
 use lib.ListN.{getD}
@@ -19,20 +19,22 @@ use Rattle.chip_registers.proofs.IndexLaws.{kept-byte}
 use Rattle.chip_registers.specs.declared.Group.{Group}
 use Rattle.chip_registers.specs.declared.Group.the-variants.{Ar}
 use Rattle.chip_ports.specs.Ports.{target}
-use Rattle.chip_ports.specs.declared.Target.the-variants.{Data, Paldata}
+use Rattle.chip_ports.specs.declared.Target.{Target}
+use Rattle.chip_ports.specs.declared.Target.the-variants.{Index, Data, ReadIndex, WriteIndex, Paldata, Attribute, Status, NotPicked, NotListed}
 use Rattle.chip.specs.State.{Chip, Named, named, withNamed, withPicture, indexByte, indexOf}
-use Rattle.chip.specs.Names.{register, received, portsOpen, picks3Dx}
+use Rattle.chip.specs.Names.{register, readByte, received, portsOpen, picks3Dx}
 use Rattle.chip.specs.Palette.{rgb, entry, coloured, loaded}
-use Rattle.chip.specs.Attribute.{attributeAimed}
-use Rattle.chip.specs.Access.{Wrote, answerNumber, accessTable, untold, writeTo, readFrom, portWritten, portRead}
+use Rattle.chip.specs.Attribute.{attributeAimed, attributeSet}
+use Rattle.chip.specs.Access.{Wrote, answerNumber, accessTable, untold, told, writeTo, readFrom, portWritten, portRead}
 use Rattle.chip.specs.Differ.{sameGroup, sameColour, sameStored, differ}
 use Rattle.chip.specs.declared.Rgb.{Rgb}
 use Rattle.chip.specs.declared.access.Answer.{Answer}
+use Rattle.chip.specs.declared.access.Answer.the-variants.{Done, Closed}
 use Rattle.chip.specs.declared.Loading.{Loading}
 use Rattle.chip.proofs.Banks.{bank, place, register-bank}
 use Rattle.chip.proofs.NameLaws.{received-other, received-keeps-colours, coloured-keeps-register, picture-keeps-register}
 use Rattle.chip.proofs.PaletteLaws.{coloured-other}
-use Rattle.chip.proofs.AccessLaws.{write-closed, write-open, read-keeps-all}
+use Rattle.chip.proofs.AccessLaws.{write-closed, write-open, write-data, read-keeps-all}
 use Rattle.chip.proofs.NumberLaws.{refused, write-number}
 
 -- two tests that hold together are one
@@ -180,10 +182,81 @@ pub quiet : {w : Wrote} {b : Bool} {a : Answer} {k d : Chip} (c : Chip) → w �
     → (w ≡ untold a d) × (b ≡ differ c d)
 quiet {a = a} {d = d} c u f e n = (u ∙ ap (untold a) e, f ∙ sym (unmoved c d n))
 
+-- whether a write tells of a register: at a data port, and at 3C0h where data comes next
+abbrev pub tells : Target → Chip → Bool
+tells (Index g) c = false
+tells (Data g) c = true
+tells ReadIndex c = false
+tells WriteIndex c = false
+tells Paldata c = false
+tells Attribute c = c .indexes .turn
+tells Status c = false
+tells NotPicked c = false
+tells NotListed c = false
+
 -- what it hands back is what a read of the register shows, before it and after it
 pub data-told : (g : Group) (c : Chip) (v : ℕ)
     → (writeTo (Data g) c v .before ≡ readFrom (Data g) c .value) × (writeTo (Data g) c v .after ≡ readFrom (Data g) (writeTo (Data g) c v .chip) .value)
 data-told g c v = (refl, refl)
+
+-- a write that hands back two bytes, at whatever port, changed the register
+target-differs : (t : Target) (c : Chip) (v : ℕ) → (writeTo t c v .before ≡ writeTo t c v .after → ⊥) → differ c (writeTo t c v .chip) ≡ true
+target-differs (Index g) c v other = absurd (other refl)
+target-differs (Data g) c v other = data-differs g c v ∙ ap not (ne-eqb _ _ other)
+target-differs ReadIndex c v other = absurd (other refl)
+target-differs WriteIndex c v other = absurd (other refl)
+target-differs Paldata c v other = absurd (other refl)
+target-differs Attribute c v other = go (c .indexes .turn) other
+  where
+    by : Bool → Wrote
+    by z = cond z (told Ar (indexOf Ar (c .indexes)) c (attributeSet c v)) (untold Done (attributeAimed c v))
+
+    go : (z : Bool) → (by z .before ≡ by z .after → ⊥) → differ c (by z .chip) ≡ true
+    go true h =
+        differ-named c (attributeSet c v) (withNamed c (received Ar (named c) (indexOf Ar (c .indexes)) v)) refl
+        ∙ received-differs Ar c (indexOf Ar (c .indexes)) v (kept-byte Ar (indexByte Ar (c .indexes))) ∙ ap not (ne-eqb _ _ h)
+    go false h = absurd (h refl)
+target-differs Status c v other = absurd (other refl)
+target-differs NotPicked c v other = absurd (other refl)
+target-differs NotListed c v other = absurd (other refl)
+
+pub told-differs : (c : Chip) (p v : ℕ) → (portWritten c p v .before ≡ portWritten c p v .after → ⊥) → differ c (portWritten c p v .chip) ≡ true
+unfolding portWritten
+told-differs c p v other = go (portsOpen (named c)) other
+  where
+    by : Bool → Wrote
+    by z = cond z (writeTo (target (picks3Dx (named c)) true p) c v) (untold Closed c)
+
+    go : (z : Bool) → (by z .before ≡ by z .after → ⊥) → differ c (by z .chip) ≡ true
+    go true h = target-differs (target (picks3Dx (named c)) true p) c v h
+    go false h = absurd (h refl)
+
+-- what is told at a port that leads to a register: its byte as it reads before the write, and in the state that the write leaves
+module _ (c : Chip) (p v : ℕ) (free : portsOpen (named c) ≡ true) where
+  pub register-told : (g : Group) → target (picks3Dx (named c)) true p ≡ Data g
+      → (portWritten c p v .before ≡ readByte g (named c) (indexOf g (c .indexes)))
+      × (portWritten c p v .after ≡ readByte g (named (portWritten c p v .chip)) (indexOf g (c .indexes)))
+  register-told g leads = rw (write-data c p free g v leads) (refl, refl)
+
+  pub attribute-told : target (picks3Dx (named c)) true p ≡ Attribute → c .indexes .turn ≡ true
+      → (portWritten c p v .before ≡ readByte Ar (named c) (indexOf Ar (c .indexes)))
+      × (portWritten c p v .after ≡ readByte Ar (named (portWritten c p v .chip)) (indexOf Ar (c .indexes)))
+  attribute-told leads turn = rw (write-open c p free v, leads, turn) (refl, refl)
+
+  -- every other port tells of no register: FFh twice
+  pub elsewhere-untold : tells (target (picks3Dx (named c)) true p) c ≡ false → (portWritten c p v .before ≡ 0xFF) × (portWritten c p v .after ≡ 0xFF)
+  elsewhere-untold h = rw (write-open c p free v) (go (target (picks3Dx (named c)) true p) h)
+    where
+      go : (t : Target) → tells t c ≡ false → (writeTo t c v .before ≡ 0xFF) × (writeTo t c v .after ≡ 0xFF)
+      go (Index g) e = (refl, refl)
+      go (Data g) e = absurd (true≢false e)
+      go ReadIndex e = (refl, refl)
+      go WriteIndex e = (refl, refl)
+      go Paldata e = (refl, refl)
+      go Attribute e = rw e (refl, refl)
+      go Status e = (refl, refl)
+      go NotPicked e = (refl, refl)
+      go NotListed e = (refl, refl)
 
 -- a refused write hands back FFh twice
 pub refused-untold : (c : Chip) (p v : ℕ) → (answerNumber (portWritten c p v .answer) ≡ 0 → ⊥)

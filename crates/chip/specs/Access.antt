@@ -41,7 +41,8 @@ wrote a b f c = record { answer = a; before = b; after = f; chip = c }
 abbrev pub untold : Answer → Chip → Wrote
 untold a c = wrote a 0xFF 0xFF c
 
--- a data write hands back the register's byte before and after it, as it reads: in the state before, and in the state that it leaves
+-- a data write hands back the register's byte before and after it, as it reads: in the state before, and in the state that it
+-- leaves
 abbrev pub told : Group → ℕ → Chip → Chip → Wrote
 told g i c d = wrote Done (readByte g (named c) i) (readByte g (named d) i) d
 

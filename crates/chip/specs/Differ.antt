@@ -1,7 +1,7 @@
--- Whether a register or a colour differs between two states: document 02, P6, "changed a register or a colour". By name, and by what
--- is stored: the registers of all groups with MSR and PALMASK, and the 256 entries of the palette. Bit 5 of the attribute index, an
--- index, the turn of 3C0h and the palette's loading state are no register and no colour. A write that hands back FFh twice can
--- change a colour, and one that hands back the same byte twice changes nothing: proofs/DifferLaws.
+-- Whether a register or a colour differs between two states: document 02, P6, "changed a register or a colour". By name, and by
+-- what is stored: the registers of all groups with MSR and PALMASK, and the 256 entries of the palette. Bit 5 of the attribute
+-- index, an index, the turn of 3C0h and the palette's loading state are no register and no colour. A write that hands back FFh
+-- twice can change a colour, and one that hands back the same byte twice changes nothing: proofs/DifferLaws.
 use Prim.Native.Nat.{ℕ}
 use mathlib.Core.Bool.{Bool, not, cond, _&&_}
 use lib.Dec.{eqb}
