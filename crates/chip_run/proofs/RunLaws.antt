@@ -3,6 +3,7 @@
 -- commands run as those commands; and what port accesses keep, a run keeps.
 use Prim.Native.Nat.{ℕ, zero, suc, _+_, _-_, _*_, _/_, _%_, _≤_, min}
 use lib.Seq.{length-take-le}
+use native.Mathlib.Nat.{zero-add}
 use native.Mathlib.Omega.{arith}
 use mathlib.Core.Bool.{Bool, true, false, cond}
 use mathlib.Core.Path.{_≡_, refl, _∙_, ap, sym}
@@ -18,7 +19,7 @@ use Rattle.script_commands.specs.declared.Command.the-variants.{Out, In, Merge,
 use Rattle.script_commands.specs.declared.CommandRead.{CommandRead}
 use Rattle.script_commands.specs.declared.CommandRead.the-variants.{Known, Unknown}
 use Rattle.lists.specs.Numbers.{returned}
-use Rattle.chip_run.specs.Run.{Ran, Did, did, done, one, following, ranTo, runFrom, afterDone, carry, more, carried, reads, ran, least, ofEnding}
+use Rattle.chip_run.specs.Run.{Went, wentTo, Did, did, done, one, following, runFrom, altering, ranTo, handed, afterDone, carry, more, carried, reads, ran, least, ofEnding}
 use Rattle.chip_run.specs.declared.Reason.{Reason}
 use Rattle.chip_run.specs.declared.Reason.the-variants.{Form}
 use Rattle.chip_run.specs.declared.Verdict.{Verdict}
@@ -37,15 +38,15 @@ carried-most (r ∷ rs) c acc = go (one c acc r .verdict) (carried-most rs (one 
     go Done h = omega arith
     go (Bad why) h = omega arith
 
-counts : (rs : List CommandRead) (c : Chip) (acc k left : ℕ) → runFrom c acc k left rs .count ≡ k + min left (carried c acc rs)
+pub counts : (rs : List CommandRead) (c : Chip) (acc k left : ℕ) → runFrom c acc k left rs .count ≡ k + min left (carried c acc rs)
 unfolding runFrom carried
 counts [] c acc k left = omega arith
 counts (r ∷ rs) c acc k zero = omega arith
 counts (r ∷ rs) c acc k (suc left) =
     let d = one c acc r in go (d .verdict) (runFrom (d .chip) (d .acc) (k + 1) left rs) (counts rs (d .chip) (d .acc) (k + 1) left)
   where
-    go : (v : Verdict) (x : Ran) → x .count ≡ k + 1 + min left (carried (one c acc r .chip) (one c acc r .acc) rs)
-        → following v x (λ why. ranTo c k (Stopped k why)) .count ≡ k + min (suc left) (more v (carried (one c acc r .chip) (one c acc r .acc) rs))
+    go : (v : Verdict) (x : Went) → x .count ≡ k + 1 + min left (carried (one c acc r .chip) (one c acc r .acc) rs)
+        → following v x (λ why. wentTo c k (Stopped k why)) .count ≡ k + min (suc left) (more v (carried (one c acc r .chip) (one c acc r .acc) rs))
     go Done x h = omega arith
     go (Bad why) x h = omega arith
 
@@ -66,7 +67,7 @@ count-least c bytes limit = go (eqb (length bytes % 4) 0)
     most : carried c 0 (reads bytes) ≤ length bytes / 4
     most = omega (arith, carried-most (reads bytes) c 0, length-reads bytes)
 
-    go : (z : Bool) → cond z (runFrom c 0 0 limit (reads bytes)) (ranTo c 0 (Stopped 0 Form)) .count
+    go : (z : Bool) → cond z (handed (altering c 0 (take limit (reads bytes))) (runFrom c 0 0 limit (reads bytes))) (ranTo c 0 0 (Stopped 0 Form)) .count
         ≡ cond z (min limit (min (length bytes / 4) (carried c 0 (reads bytes)))) 0
     go true = counts (reads bytes) c 0 0 limit ∙ omega (arith, most)
     go false = refl
@@ -86,8 +87,8 @@ module _ (p : ℕ) (why : Reason) where
       go : (v : Verdict)
           → (runFrom (one c acc r .chip) (one c acc r .acc) (k + 1) left rs .ending ≡ Stopped p why
           → runFrom (one c acc r .chip) (one c acc r .acc) (k + 1) left rs .count ≡ p)
-          → following v (runFrom (one c acc r .chip) (one c acc r .acc) (k + 1) left rs) (λ w. ranTo c k (Stopped k w)) .ending ≡ Stopped p why
-          → following v (runFrom (one c acc r .chip) (one c acc r .acc) (k + 1) left rs) (λ w. ranTo c k (Stopped k w)) .count ≡ p
+          → following v (runFrom (one c acc r .chip) (one c acc r .acc) (k + 1) left rs) (λ w. wentTo c k (Stopped k w)) .ending ≡ Stopped p why
+          → following v (runFrom (one c acc r .chip) (one c acc r .acc) (k + 1) left rs) (λ w. wentTo c k (Stopped k w)) .count ≡ p
       go Done f e = f e
       go (Bad w) f e = cc
 
@@ -103,9 +104,9 @@ module _ (p : ℕ) (why : Reason) where
       go : (v : Verdict)
           → (runFrom (one c acc r .chip) (one c acc r .acc) (k + 1) left rs .ending ≡ Stopped p why
           → runFrom (one c acc r .chip) (one c acc r .acc) (k + 1) (left + more) rs ≡ runFrom (one c acc r .chip) (one c acc r .acc) (k + 1) left rs)
-          → following v (runFrom (one c acc r .chip) (one c acc r .acc) (k + 1) left rs) (λ w. ranTo c k (Stopped k w)) .ending ≡ Stopped p why
-          → following v (runFrom (one c acc r .chip) (one c acc r .acc) (k + 1) (left + more) rs) (λ w. ranTo c k (Stopped k w))
-          ≡ following v (runFrom (one c acc r .chip) (one c acc r .acc) (k + 1) left rs) (λ w. ranTo c k (Stopped k w))
+          → following v (runFrom (one c acc r .chip) (one c acc r .acc) (k + 1) left rs) (λ w. wentTo c k (Stopped k w)) .ending ≡ Stopped p why
+          → following v (runFrom (one c acc r .chip) (one c acc r .acc) (k + 1) (left + more) rs) (λ w. wentTo c k (Stopped k w))
+          ≡ following v (runFrom (one c acc r .chip) (one c acc r .acc) (k + 1) left rs) (λ w. wentTo c k (Stopped k w))
       go Done f e = f e
       go (Bad w) f e = refl
 
@@ -118,8 +119,8 @@ end-all (r ∷ rs) c acc k (suc left) h = go (one c acc r .verdict) (end-all rs 
     go : (v : Verdict)
         → (runFrom (one c acc r .chip) (one c acc r .acc) (k + 1) left rs .ending ≡ Ended
         → runFrom (one c acc r .chip) (one c acc r .acc) (k + 1) left rs .count ≡ k + 1 + length rs)
-        → following v (runFrom (one c acc r .chip) (one c acc r .acc) (k + 1) left rs) (λ w. ranTo c k (Stopped k w)) .ending ≡ Ended
-        → following v (runFrom (one c acc r .chip) (one c acc r .acc) (k + 1) left rs) (λ w. ranTo c k (Stopped k w)) .count ≡ k + suc (length rs)
+        → following v (runFrom (one c acc r .chip) (one c acc r .acc) (k + 1) left rs) (λ w. wentTo c k (Stopped k w)) .ending ≡ Ended
+        → following v (runFrom (one c acc r .chip) (one c acc r .acc) (k + 1) left rs) (λ w. wentTo c k (Stopped k w)) .count ≡ k + suc (length rs)
     go Done f e = let h = f e in omega arith
     go (Bad w) f e = absurd (let z : _≡_ {A = ℕ} 0 1 = cc in omega arith)
 
@@ -132,13 +133,13 @@ all-end (r ∷ rs) c acc k (suc left) h = go (one c acc r .verdict) (all-end rs 
     go : (v : Verdict)
         → (runFrom (one c acc r .chip) (one c acc r .acc) (k + 1) left rs .count ≡ k + 1 + length rs
         → runFrom (one c acc r .chip) (one c acc r .acc) (k + 1) left rs .ending ≡ Ended)
-        → following v (runFrom (one c acc r .chip) (one c acc r .acc) (k + 1) left rs) (λ w. ranTo c k (Stopped k w)) .count ≡ k + suc (length rs)
-        → following v (runFrom (one c acc r .chip) (one c acc r .acc) (k + 1) left rs) (λ w. ranTo c k (Stopped k w)) .ending ≡ Ended
+        → following v (runFrom (one c acc r .chip) (one c acc r .acc) (k + 1) left rs) (λ w. wentTo c k (Stopped k w)) .count ≡ k + suc (length rs)
+        → following v (runFrom (one c acc r .chip) (one c acc r .acc) (k + 1) left rs) (λ w. wentTo c k (Stopped k w)) .ending ≡ Ended
     go Done f e = f (omega arith)
     go (Bad w) f e = absurd (omega arith)
 
 -- ---- one list behind another
-different : (why : Reason) → Bad why ≡ Done → ⊥
+pub different : (why : Reason) → Bad why ≡ Done → ⊥
 different why h = let z : _≡_ {A = ℕ} 0 1 = cc in omega arith
 
 pub carry-append : (xs ys : List CommandRead) (c d : Chip) (a b : ℕ) → carry c a xs ≡ did Done b d → carry c a (xs ++ ys) ≡ carry d b ys
@@ -168,12 +169,12 @@ run-append (x ∷ xs) ys c d a b k n m left hn hm h =
     go : (t : Did) (v : Verdict) → t .verdict ≡ v
         → (carry (t .chip) (t .acc) xs ≡ did Done b d → runFrom (t .chip) (t .acc) (k + 1) (length xs + left) (xs ++ ys) ≡ runFrom d b n left ys)
         → afterDone v (carry (t .chip) (t .acc) xs) t ≡ did Done b d
-        → following v (runFrom (t .chip) (t .acc) (k + 1) (length xs + left) (xs ++ ys)) (λ why. ranTo c k (Stopped k why)) ≡ runFrom d b n left ys
+        → following v (runFrom (t .chip) (t .acc) (k + 1) (length xs + left) (xs ++ ys)) (λ why. wentTo c k (Stopped k why)) ≡ runFrom d b n left ys
     go t Done e f g = f g
     go t (Bad why) e f g = absurd (different why (sym e ∙ ap (λ (u : Did). u .verdict) g))
 
 -- a run at its limit stands where it is
-pub record Stands (r : Ran) (c : Chip) (k : ℕ) : Type 0 where
+pub record Stands (r : Went) (c : Chip) (k : ℕ) : Type 0 where
   pub chip : r .chip ≡ c
   pub count : r .count ≡ k
   pub unrefused : ofEnding (r .ending) ≡ returned 0 0
@@ -191,7 +192,7 @@ run-longer rs c d b l m room h =
     let len : length (take l rs) ≡ l = length-take-le l rs room in
     let shorter : runFrom c 0 0 l rs ≡ runFrom d b l 0 (drop l rs) =
     ap (runFrom c 0 0 l) split ∙ run-append (take l rs) (drop l rs) c d 0 b 0 l l 0 (omega arith) (omega arith) h in (
-      ap (λ (r : Ran). r .chip) shorter ∙ at-limit d b l (drop l rs) .chip,
+      ap (λ (r : Went). r .chip) shorter ∙ at-limit d b l (drop l rs) .chip,
       ap (runFrom c 0 0 (l + m)) split ∙ run-append (take l rs) (drop l rs) c d 0 b 0 l (l + m) m (omega arith) (omega arith) h,
     )
 
@@ -216,11 +217,13 @@ unfolding bytesOfAll
 reads-bytes [] = nothing-reads
 reads-bytes (x ∷ xs) = reads-one x (bytesOfAll xs) ∙ ap (_∷_ (Known x)) (reads-bytes xs)
 
-pub run-commands : (c : Chip) (xs : List Command) (limit : ℕ) → ran c (bytesOfAll xs) limit ≡ runFrom c 0 0 limit (knowns xs)
+pub run-commands : (c : Chip) (xs : List Command) (limit : ℕ)
+    → ran c (bytesOfAll xs) limit ≡ handed (altering c 0 (take limit (knowns xs))) (runFrom c 0 0 limit (knowns xs))
 run-commands c xs limit =
     let n : length (bytesOfAll xs) ≡ 4 * length xs = length-bytes xs in
     let z : limit - 0 ≡ limit = omega arith in
-    sym (whole c (bytesOfAll xs) limit (omega arith)) ∙ rw z (ap (runFrom c 0 0 limit) (reads-bytes xs))
+    sym (whole c (bytesOfAll xs) limit (omega arith))
+    ∙ rw (z, zero-add) (ap (λ (rs : List CommandRead). handed (altering c 0 (take limit rs)) (runFrom c 0 0 limit rs)) (reads-bytes xs))
 
 -- what port accesses keep, a run keeps
 module _ (P : Chip → Type 0) (write : (c : Chip) (p v : ℕ) → P c → P (portWritten c p v .chip)) (read : (c : Chip) (p : ℕ) → P c → P (portRead c p .chip)) where
@@ -240,7 +243,7 @@ module _ (P : Chip → Type 0) (write : (c : Chip) (p v : ℕ) → P c → P (po
       go (one c acc r .verdict) (runFrom (one c acc r .chip) (one c acc r .acc) (k + 1) left rs)
       (from-keeps rs (one c acc r .chip) (one c acc r .acc) (k + 1) left (one-keeps c acc r h))
     where
-      go : (v : Verdict) (x : Ran) → P (x .chip) → P (following v x (λ why. ranTo c k (Stopped k why)) .chip)
+      go : (v : Verdict) (x : Went) → P (x .chip) → P (following v x (λ why. wentTo c k (Stopped k why)) .chip)
       go Done x y = y
       go (Bad why) x y = h
 
@@ -248,6 +251,6 @@ module _ (P : Chip → Type 0) (write : (c : Chip) (p v : ℕ) → P c → P (po
   unfolding ran
   run-keeps c bytes limit h = go (eqb (length bytes % 4) 0)
     where
-      go : (z : Bool) → P (cond z (runFrom c 0 0 limit (reads bytes)) (ranTo c 0 (Stopped 0 Form)) .chip)
+      go : (z : Bool) → P (cond z (handed (altering c 0 (take limit (reads bytes))) (runFrom c 0 0 limit (reads bytes))) (ranTo c 0 0 (Stopped 0 Form)) .chip)
       go true = from-keeps (reads bytes) c 0 0 limit h
       go false = h

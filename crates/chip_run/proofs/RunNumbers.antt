@@ -11,6 +11,7 @@ use lib.Dec.{eqb, ltb}
 use lib.ListN.{length, take}
 use borrow.Author.Tests.{lt-ltb, le-ltb}
 use Rattle.chip.specs.Access.{answerNumber, portWritten, portRead}
+use Rattle.chip.specs.Differ.{differ}
 use Rattle.chip.specs.State.{Chip}
 use Rattle.chip.specs.declared.access.Answer.{Answer}
 use Rattle.chip.specs.declared.access.Answer.the-variants.{Done as Granted, Unlisted as NoPort, Closed as Shut}
@@ -20,7 +21,7 @@ use Rattle.script_commands.specs.declared.Command.the-variants.{Out, In, Merge,
 use Rattle.script_commands.specs.declared.CommandRead.{CommandRead}
 use Rattle.script_commands.specs.declared.CommandRead.the-variants.{Known, Unknown}
 use Rattle.lists.specs.Numbers.{Returned, returned}
-use Rattle.chip_run.specs.Run.{Ran, Did, answered, done, one, following, ranTo, runFrom, carry, more, carried, reads, ran, least, reasonNumber, verdictNumber, ofEnding, commandTable, stopTable, runTable}
+use Rattle.chip_run.specs.Run.{Ran, ranTo, handed, Did, answered, done, one, following, wentTo, runFrom, altering, carry, more, carried, reads, ran, least, reasonNumber, verdictNumber, ofEnding, commandTable, stopTable, runTable}
 use Rattle.chip_run.specs.declared.Reason.{Reason}
 use Rattle.chip_run.specs.declared.Reason.the-variants.{Form}
 use Rattle.chip_run.specs.declared.Verdict.{Verdict}
@@ -47,21 +48,21 @@ one-number c acc (Known x) = done-number c acc x
 one-number c acc Unknown = refl
 
 -- what the contract of `command` says, from the one equation
-pub command-answered : (c : Chip) (acc : ℕ) (r : CommandRead) {d : Did} → d ≡ one c acc r
-    → (d ≡ one c acc r) × (verdictNumber (d .verdict) ≡ commandTable c r)
-command-answered c acc r e = (e, ap (λ (d : Did). verdictNumber (d .verdict)) e ∙ one-number c acc r)
+pub command-answered : (c : Chip) (acc : ℕ) (r : CommandRead) {d : Did} {b : Bool} → d ≡ one c acc r → b ≡ differ c (one c acc r .chip)
+    → (d ≡ one c acc r) × ((verdictNumber (d .verdict) ≡ commandTable c r) × (b ≡ differ c (one c acc r .chip)))
+command-answered c acc r e f = (e, (ap (λ (d : Did). verdictNumber (d .verdict)) e ∙ one-number c acc r, f))
 
 -- ---- a run
 -- number and place where n commands are carried out, of so many that there are and may be, from place k on
 abbrev tableFrom : Chip → ℕ → ℕ → List CommandRead → ℕ → ℕ → Returned
 tableFrom c acc k rs n most = cond (ltb n most) (returned (stopTable c acc rs n) (k + n)) (returned 0 0)
 
-carry-next : (c : Chip) (acc : ℕ) (r : CommandRead) (rs : List CommandRead) → one c acc r .verdict ≡ Done
+pub carry-next : (c : Chip) (acc : ℕ) (r : CommandRead) (rs : List CommandRead) → one c acc r .verdict ≡ Done
     → carry c acc (r ∷ rs) ≡ carry (one c acc r .chip) (one c acc r .acc) rs
 unfolding carry
 carry-next c acc r rs e = rw e
 
-carry-none : (c : Chip) (acc : ℕ) → carry c acc [] .chip ≡ c
+pub carry-none : (c : Chip) (acc : ℕ) → carry c acc [] .chip ≡ c
 unfolding carry
 carry-none c acc = refl
 
@@ -104,7 +105,7 @@ ending-number (r ∷ rs) c acc k (suc left) =
     go : (v : Verdict) → one c acc r .verdict ≡ v
         → ofEnding (runFrom (one c acc r .chip) (one c acc r .acc) (k + 1) left rs .ending)
         ≡ tableFrom (one c acc r .chip) (one c acc r .acc) (k + 1) rs (min left (min (length rs) rest)) (min left (length rs))
-        → ofEnding (following v (runFrom (one c acc r .chip) (one c acc r .acc) (k + 1) left rs) (λ why. ranTo c k (Stopped k why)) .ending)
+        → ofEnding (following v (runFrom (one c acc r .chip) (one c acc r .acc) (k + 1) left rs) (λ why. wentTo c k (Stopped k why)) .ending)
         ≡ tableFrom c acc k (r ∷ rs) (min (suc left) (min (suc (length rs)) (more v rest))) (min (suc left) (suc (length rs)))
     go Done e next =
         let a : min (suc left) (min (suc (length rs)) (suc rest)) ≡ suc (min left (min (length rs) rest)) = omega arith in
@@ -122,7 +123,7 @@ run-number c bytes limit = go (eqb (length bytes % 4) 0)
     n : ℕ
     n = min limit (min (length bytes / 4) (carried c 0 (reads bytes)))
 
-    go : (z : Bool) → ofEnding (cond z (runFrom c 0 0 limit (reads bytes)) (ranTo c 0 (Stopped 0 Form)) .ending)
+    go : (z : Bool) → ofEnding (cond z (handed (altering c 0 (take limit (reads bytes))) (runFrom c 0 0 limit (reads bytes))) (ranTo c 0 0 (Stopped 0 Form)) .ending)
         ≡ cond z (cond (ltb (cond z n 0) (min limit (length bytes / 4))) (returned (stopTable c 0 (reads bytes) (cond z n 0)) (cond z n 0)) (returned 0 0)) (returned 10 0)
     go true =
         let m : ℕ = min limit (min (length (reads bytes)) (carried c 0 (reads bytes))) in

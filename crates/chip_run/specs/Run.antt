@@ -1,14 +1,17 @@
 -- The run of commands. Document 01, "Commands": the accumulator starts at 0; for each command 10 comes before 2 and 2 before 1,
 -- and MERGE is no port access; a limit met at a bad command counts first; with every command done it is the end. A stopped run
 -- hands back the state that its earlier commands left. Its laws are in proofs/RunLaws; that its number and place are those of the
--- table below, and so each of 10, 2 and 1 is given exactly when, is in proofs/RunNumbers.
-use Prim.Native.Nat.{ℕ, zero, suc, _+_, _/_, _%_, min}
+-- table below, and so each of 10, 2 and 1 is given exactly when, is in proofs/RunNumbers. Document 02, P6: a run also hands back
+-- how many of its commands changed a register or a colour; its laws are in proofs/ChangingLaws.
+use Prim.Native.Nat.{ℕ, zero, suc, _+_, _/_, _%_, _<_, min}
 use mathlib.Core.Bool.{true, false, cond}
+use mathlib.Core.Path.{_≡_}
 use mathlib.Core.List.{List, [], _∷_}
 use lib.Dec.{eqb, ltb}
 use lib.ListN.{length, take, getD}
 use lib.Bits.{bitAnd, bitOr}
 use Rattle.chip.specs.Access.{Seen, Wrote, accessTable, portWritten, portRead}
+use Rattle.chip.specs.Differ.{differ, changes}
 use Rattle.chip.specs.State.{Chip}
 use Rattle.chip.specs.declared.access.Answer.{Answer}
 use Rattle.chip.specs.declared.access.Answer.the-variants.{Done as Granted, Unlisted as NoPort, Closed as Shut}
@@ -58,27 +61,51 @@ unfoldable pub one : Chip → ℕ → CommandRead → Did
 one c acc (Known x) = done c acc x
 one c acc Unknown = did (Bad Form) acc c
 
--- what a run hands back: the state, how many commands were carried out, and how it ended
-pub record Ran : Type 0 where
+-- how far commands went: the state, how many were carried out, and how it ended
+pub record Went : Type 0 where
   pub chip : Chip
   pub count : ℕ
   pub ending : Ending
 
-abbrev pub ranTo : Chip → ℕ → Ending → Ran
-ranTo c k e = record { chip = c; count = k; ending = e }
+abbrev pub wentTo : Chip → ℕ → Ending → Went
+wentTo c k e = record { chip = c; count = k; ending = e }
 
 -- what follows a verdict: x where the command was done, or f of the reason
-abbrev pub following : Verdict → Ran → (Reason → Ran) → Ran
+abbrev pub following : Verdict → Went → (Reason → Went) → Went
 following Done x f = x
 following (Bad why) x f = f why
 
 -- a run from place k on, with so many commands left to the limit
-unfoldable pub runFrom : Chip → ℕ → ℕ → ℕ → List CommandRead → Ran
-runFrom c acc k left [] = ranTo c k Ended
-runFrom c acc k zero (r ∷ rs) = ranTo c k AtLimit
+unfoldable pub runFrom : Chip → ℕ → ℕ → ℕ → List CommandRead → Went
+runFrom c acc k left [] = wentTo c k Ended
+runFrom c acc k zero (r ∷ rs) = wentTo c k AtLimit
 runFrom c acc k (suc left) (r ∷ rs) =
     let d = one c acc r in
-    following (d .verdict) (runFrom (d .chip) (d .acc) (k + 1) left rs) (λ why. ranTo c k (Stopped k why))
+    following (d .verdict) (runFrom (d .chip) (d .acc) (k + 1) left rs) (λ why. wentTo c k (Stopped k why))
+
+-- document 02, P6: how many of the commands changed a register or a colour, up to the first that is refused. A command counts
+-- where registers or colours differ after it (`changes` of crate `chip`)
+abbrev pub counted : Verdict → ℕ → ℕ → ℕ
+counted Done n rest = n + rest
+counted (Bad why) n rest = 0
+
+unfoldable pub altering : Chip → ℕ → List CommandRead → ℕ
+altering c acc [] = 0
+altering c acc (r ∷ rs) =
+    let d = one c acc r in counted (d .verdict) (changes c (d .chip)) (altering (d .chip) (d .acc) rs)
+
+-- what a run hands back: the state, how many commands were carried out, how many of these changed something, and how it ended
+pub record Ran : Type 0 where
+  pub chip : Chip
+  pub count : ℕ
+  pub changing : ℕ
+  pub ending : Ending
+
+abbrev pub ranTo : Chip → ℕ → ℕ → Ending → Ran
+ranTo c k n e = record { chip = c; count = k; changing = n; ending = e }
+
+abbrev pub handed : ℕ → Went → Ran
+handed n w = ranTo (w .chip) (w .count) n (w .ending)
 
 -- all the commands, up to the first that is refused: the state and the accumulator that they leave
 abbrev pub afterDone : Verdict → Did → Did → Did
@@ -98,6 +125,14 @@ unfoldable pub carried : Chip → ℕ → List CommandRead → ℕ
 carried c acc [] = 0
 carried c acc (r ∷ rs) = let d = one c acc r in more (d .verdict) (carried (d .chip) (d .acc) rs)
 
+-- the state that the first k commands leave
+abbrev pub stateAt : Chip → ℕ → List CommandRead → ℕ → Chip
+stateAt c acc rs k = carry c acc (take k rs) .chip
+
+-- registers and colours never moved: they are the same before and after each command that is carried out
+abbrev pub Still : Chip → ℕ → List CommandRead → Type 0
+Still c acc rs = (k : ℕ) → k < carried c acc rs → differ (stateAt c acc rs k) (stateAt c acc rs (suc k)) ≡ false
+
 -- bytes as commands, four to each
 unfoldable pub reads : List ℕ → List CommandRead
 reads [] = []
@@ -108,7 +143,9 @@ reads (a ∷ b ∷ c ∷ d ∷ l) = commandOf a b c d ∷ reads l
 
 -- the run of command bytes: a length that is no multiple of 4 is refused before any runs
 unfoldable pub ran : Chip → List ℕ → ℕ → Ran
-ran c bytes limit = cond (eqb (length bytes % 4) 0) (runFrom c 0 0 limit (reads bytes)) (ranTo c 0 (Stopped 0 Form))
+ran c bytes limit =
+    cond (eqb (length bytes % 4) 0) (handed (altering c 0 (take limit (reads bytes))) (runFrom c 0 0 limit (reads bytes)))
+    (ranTo c 0 0 (Stopped 0 Form))
 
 -- "the least of the limit, the commands there are, and those before the first refused one"; none where the length is refused
 abbrev pub least : Chip → List ℕ → ℕ → ℕ

@@ -8,4 +8,4 @@ abbrev pub viewDid : KeptDid → Did
 viewDid d = did (d .verdict) (d .acc) (view (d .chip))
 
 abbrev pub viewRan : KeptRan → Ran
-viewRan r = ranTo (view (r .chip)) (r .count) (r .ending)
+viewRan r = ranTo (view (r .chip)) (r .count) (r .changing) (r .ending)

@@ -1,5 +1,7 @@
 -- Four bytes of no known form, and a command.
+use mathlib.Core.Path.{refl, sym}
 use Rattle.chip.specs.View.{view}
+use Rattle.chip.proofs.DifferLaws.{unmoved}
 use Rattle.script_commands.specs.Command.{commandOf}
 use Rattle.chip_run.specs.Run.{one}
 use Rattle.chip_run.proofs.RunNumbers.{command-answered}
@@ -16,7 +18,9 @@ command-spec =
     (λ c. search needs)
     (λ c. search needs)
     (λ c. let a = c .before .before .before .args in
-    command-answered (view (a .chip)) (a .acc) (commandOf (a .a) (a .b) (a .c) (a .d)) (rw (← c .before .before .command-of .ensures, c .enum-told .given .1)))
+    command-answered (view (a .chip)) (a .acc) (commandOf (a .a) (a .b) (a .c) (a .d)) (rw (← c .before .before .command-of .ensures, c .enum-told .given .1))
+    (rw (← c .before .before .command-of .ensures, c .enum-told .given .1) (sym (unmoved _ _ refl))))
     (λ c κs. search needs)
     (λ c. let a = c .before .before .before .before .before .args in
-    command-answered (view (a .chip)) (a .acc) (commandOf (a .a) (a .b) (a .c) (a .d)) (rw (← c .before .before .before .before .command-of .ensures, c .before .before .x .given .1) (c .carry-out .ensures))))
+    command-answered (view (a .chip)) (a .acc) (commandOf (a .a) (a .b) (a .c) (a .d)) (rw (← c .before .before .before .before .command-of .ensures, c .before .before .x .given .1) (c .carry-out .ensures .0))
+    (rw (← c .before .before .before .before .command-of .ensures, c .before .before .x .given .1) (c .carry-out .ensures .1))))
