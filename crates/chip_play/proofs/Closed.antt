@@ -1,6 +1,6 @@
 -- With closed ports a script's run stops at its first command, number 2, and the state is as it was: every legal step begins with
 -- a port access.
-use Prim.Native.Nat.{ℕ, _+_, _<_}
+use Prim.Native.Nat.{ℕ, _<_}
 use native.Mathlib.Omega.{arith}
 use mathlib.Core.Bool.{true, false}
 use mathlib.Core.Path.{_≡_}
@@ -18,7 +18,7 @@ use Rattle.script_commands.specs.declared.Command.{Command}
 use Rattle.script_commands.specs.declared.Command.the-variants.{Out, In}
 use Rattle.script_commands.specs.declared.Ways.{Ways}
 use Rattle.script_commands.specs.declared.Ways.the-variants.{Pair, Pairs, Direct, Turns, Nowhere}
-use Rattle.chip_run.specs.Run.{one, done, runFrom, ranTo}
+use Rattle.chip_run.specs.Run.{one, done, runFrom, wentTo}
 use Rattle.chip_run.proofs.RunLaws.{knowns}
 use Rattle.chip_run.specs.declared.Reason.the-variants.{Closed}
 use Rattle.chip_run.specs.declared.Ending.the-variants.{Stopped}
@@ -29,7 +29,7 @@ use Rattle.chip_play.proofs.Demand3.{AllLegal}
 module _ (c : Chip) (shut : portsOpen (named c) ≡ false) where
   -- a list of commands that stops at its first
   record Stops (cs : List Command) : Type 0 where
-    at-once : (ds : List Command) → runFrom c 0 0 (length (cs ++ ds)) (knowns (cs ++ ds)) ≡ ranTo c 0 (Stopped 0 Closed)
+    at-once : (ds : List Command) → runFrom c 0 0 (length (cs ++ ds)) (knowns (cs ++ ds)) ≡ wentTo c 0 (Stopped 0 Closed)
 
   out-stops : (p v : ℕ) (cs : List Command) → Stops (Out p v ∷ cs)
   unfolding runFrom one done portWritten
@@ -59,7 +59,7 @@ module _ (c : Chip) (shut : portsOpen (named c) ≡ false) where
   step-stops (Field group i v m) lawful = field-stops (ways group) i _ v group (leads true group i (and-both (names group i) (within v m) lawful .0))
   step-stops (Colour e r g b) lawful = out-stops 0x3C8 e _
 
-  pub steps-stop : (ss : List Step) → AllLegal ss → 0 < length ss → runFrom c 0 0 (length (commandsOf ss)) (knowns (commandsOf ss)) ≡ ranTo c 0 (Stopped 0 Closed)
+  pub steps-stop : (ss : List Step) → AllLegal ss → 0 < length ss → runFrom c 0 0 (length (commandsOf ss)) (knowns (commandsOf ss)) ≡ wentTo c 0 (Stopped 0 Closed)
   unfolding commandsOf
   steps-stop [] lawful some = absurd (omega arith)
   steps-stop (s ∷ ss) lawful some = step-stops s (lawful .0) .at-once (commandsOf ss)

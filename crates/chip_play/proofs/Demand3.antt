@@ -1,12 +1,13 @@
--- Demand 3. A script's steps are legal, so their commands do what they say one step after the other (`script-sent`); a run whose
--- limit ends with a step's commands stands where those commands leave it. The only fact about the state is that its ports
--- are open, which every state reached from a reset with CFG1 = 1 has.
-use Prim.Native.Nat.{ℕ, zero, suc, _+_, _≤_}
+-- Demand 3. A script's steps are legal, so their commands do what they say one step after the other, and change something as
+-- often as they (`script-sent`); a run whose limit ends with a step's commands stands where those commands leave it. The only
+-- fact about the state is that its ports are open, which every state reached from a reset with CFG1 = 1 has.
+use Prim.Native.Nat.{ℕ, zero, suc, _≤_}
 use native.Mathlib.Omega.{arith}
 use mathlib.Core.Bool.{true}
 use mathlib.Core.Path.{_≡_, refl, _∙_, ap, sym}
 use mathlib.Core.List.{List, [], _∷_, _++_, append-nil}
-use lib.ListN.{length}
+use lib.ListN.{length, take}
+use lib.Seq.{take-all, take-at}
 use Rattle.chip.specs.State.{Chip, Named, named, join}
 use Rattle.chip.specs.Names.{received, portsOpen}
 use Rattle.chip.specs.Palette.{coloured}
@@ -25,10 +26,11 @@ use Rattle.script_commands.specs.Translation.{stepsTo, commandsTo, begins}
 use Rattle.script_commands.proofs.Counted.{steps-split}
 use Rattle.script_commands.proofs.Expanding.{commands-append}
 use Rattle.script_commands.specs.declared.Command.{Command}
-use Rattle.chip_run.specs.Run.{ran, runFrom, ranTo}
-use Rattle.chip_run.proofs.RunLaws.{knowns, run-append, run-commands, at-limit, Stands}
+use Rattle.script_commands.specs.declared.CommandRead.{CommandRead}
+use Rattle.chip_run.specs.Run.{Went, runFrom, altering, Ran, ranTo, handed, reads, ran, ofEnding}
+use Rattle.chip_run.proofs.RunLaws.{knowns, reads-bytes, run-append, run-commands, at-limit, Stands}
 use Rattle.chip_run.specs.declared.Ending.the-variants.{Ended}
-use Rattle.chip_play.specs.ByName.{applied, appliedAll}
+use Rattle.chip_play.specs.ByName.{applied, appliedAll, stepsChanging}
 use Rattle.chip_play.specs.Demand3.{ranSteps, AfterSteps, Demand-3}
 use Rattle.chip_play.proofs.Sends.{Sends, Any, sends-append, sends-none, knowns-append}
 use Rattle.chip_play.proofs.Reaching.{open-received, open-coloured}
@@ -57,8 +59,8 @@ unfolding appliedAll
 picture-stays [] n = refl
 picture-stays (s ∷ ss) n = picture-stays ss (applied s n) ∙ picture-applied s n
 
-pub script-sent : (ss : List Step) (n : Named) → AllLegal ss → portsOpen n ≡ true → Sends Any n (commandsOf ss) (appliedAll ss n) Any
-unfolding commandsOf appliedAll
+pub script-sent : (ss : List Step) (n : Named) → AllLegal ss → portsOpen n ≡ true → Sends Any n (commandsOf ss) (appliedAll ss n) Any (stepsChanging ss n)
+unfolding commandsOf appliedAll stepsChanging
 script-sent [] n lawful free = sends-none n
 script-sent (s ∷ ss) n lawful free =
     sends-append (step-sent s n (lawful .0) free) (script-sent ss (applied s n) (lawful .1) (open-applied s n ∙ free))
@@ -81,8 +83,9 @@ length-knowns [] = refl
 length-knowns (c ∷ cs) = ap suc (length-knowns cs)
 
 module _ (f : List ℕ) (m : ℕ) (acc : checked f ≡ Accepted m) (c : Chip) (free : portsOpen (named c) ≡ true) where
-  -- the run up to the commands of the first n steps stands where these leave it
-  stands : (n : ℕ) → n ≤ m → (x : Indexes) × (l : Loading) × Stands (ranSteps c f m n) (join (appliedAll (stepsTo f n) (named c)) x l) (begins f n)
+  -- the run up to the commands of the first n steps stands where these leave it, with as many changes as the steps make
+  pub stands : (n : ℕ) → n ≤ m → (x : Indexes) × (l : Loading) × (w : Went)
+      × (ranSteps c f m n ≡ handed (stepsChanging (stepsTo f n) (named c)) w) × Stands w (join (appliedAll (stepsTo f n) (named c)) x l) (begins f n)
   stands n room =
       let (rest, split) = steps-split f m n room in
       let cs = commandsTo f n in
@@ -91,33 +94,42 @@ module _ (f : List ℕ) (m : ℕ) (acc : checked f ≡ Accepted m) (c : Chip) (f
       let k : length (knowns cs) ≡ begins f n = length-knowns cs in
       let parts : knowns (commandsTo f m) ≡ knowns cs ++ knowns (commandsOf rest) =
       ap (λ (ss : List Step). knowns (commandsOf ss)) split ∙ ap knowns (commands-append (stepsTo f n) rest) ∙ knowns-append cs (commandsOf rest) in
-      let e : ranSteps c f m n ≡ runFrom d a (begins f n) 0 (knowns (commandsOf rest)) =
-      run-commands c (commandsTo f m) (begins f n) ∙ ap (runFrom c 0 0 (begins f n)) parts
-      ∙ run-append (knowns cs) (knowns (commandsOf rest)) c d 0 a 0 (begins f n) (begins f n) 0 (omega arith) (omega arith) h in
-      (x, l, rw e (at-limit d a (begins f n) (knowns (commandsOf rest))))
+      let count : altering c 0 (take (begins f n) (knowns (commandsTo f m))) ≡ stepsChanging (stepsTo f n) (named c) =
+      ap (λ (rs : List CommandRead). altering c 0 (take (begins f n) rs)) parts
+      ∙ ap (altering c 0) (take-at (knowns cs) (knowns (commandsOf rest)) (begins f n) k) ∙ h .alters in
+      let w : Went = runFrom d a (begins f n) 0 (knowns (commandsOf rest)) in
+      let e : runFrom c 0 0 (begins f n) (knowns (commandsTo f m)) ≡ w =
+      ap (runFrom c 0 0 (begins f n)) parts
+      ∙ run-append (knowns cs) (knowns (commandsOf rest)) c d 0 a 0 (begins f n) (begins f n) 0 (omega arith) (omega arith) (h .ends) in
+      (x, l, w, run-commands c (commandsTo f m) (begins f n) ∙ ap (handed _) e ∙ ap (λ (j : ℕ). handed j w) count, at-limit d a (begins f n) (knowns (commandsOf rest)))
 
   pub after-steps : (n : ℕ) → n ≤ m → AfterSteps c f m n
   after-steps n room =
-      let (x, l, s) = stands n room in
+      let (x, l, w, e, s) = stands n room in
       record {
-        count = s .count;
-        unrefused = s .unrefused;
-        byName = ap named (s .chip);
-        picture = ap (λ (d : Chip). d .picture) (s .chip) ∙ picture-stays (stepsTo f n) (named c);
+        count = ap (λ (r : Ran). r .count) e ∙ s .count;
+        unrefused = ap (λ (r : Ran). ofEnding (r .ending)) e ∙ s .unrefused;
+        byName = ap (λ (r : Ran). named (r .chip)) e ∙ ap named (s .chip);
+        picture = ap (λ (r : Ran). r .chip .picture) e ∙ ap (λ (d : Chip). d .picture) (s .chip) ∙ picture-stays (stepsTo f n) (named c);
       }
 
   -- the run of all its commands ends
   pub whole-run : (x : Indexes) × (l : Loading)
-      × (ran c (bytesOfAll (commandsTo f m)) (begins f m) ≡ ranTo (join (appliedAll (stepsTo f m) (named c)) x l) (begins f m) Ended)
+      × (ran c (bytesOfAll (commandsTo f m)) (begins f m)
+      ≡ ranTo (join (appliedAll (stepsTo f m) (named c)) x l) (begins f m) (altering c 0 (reads (bytesOfAll (commandsTo f m)))) Ended)
   unfolding runFrom
   whole-run =
       let cs = commandsTo f m in
       let (x, l, a, h, _) = script-sent (stepsTo f m) (named c) (steps-legal f m acc m (omega arith)) free .runs (c .indexes) (c .loading) 0 tt in
-      let k : length (knowns cs) ≡ begins f m = length-knowns cs in (
+      let k : length (knowns cs) ≡ begins f m = length-knowns cs in
+      let all : take (begins f m) (knowns cs) ≡ reads (bytesOfAll cs) = take-all (begins f m) (knowns cs) (omega arith) ∙ sym (reads-bytes cs) in (
         x,
         l,
-        run-commands c cs (begins f m) ∙ ap (runFrom c 0 0 (begins f m)) (sym (append-nil (knowns cs)))
-            ∙ run-append (knowns cs) [] c (join (appliedAll (stepsTo f m) (named c)) x l) 0 a 0 (begins f m) (begins f m) 0 (omega arith) (omega arith) h,
+        run-commands c cs (begins f m)
+            ∙ ap (λ (rs : List CommandRead). handed (altering c 0 rs) (runFrom c 0 0 (begins f m) (knowns cs))) all
+            ∙ ap (handed (altering c 0 (reads (bytesOfAll cs))))
+            (ap (runFrom c 0 0 (begins f m)) (sym (append-nil (knowns cs)))
+            ∙ run-append (knowns cs) [] c (join (appliedAll (stepsTo f m) (named c)) x l) 0 a 0 (begins f m) (begins f m) 0 (omega arith) (omega arith) (h .ends)),
       )
 
 -- ---- the theorem

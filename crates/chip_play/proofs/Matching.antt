@@ -1,11 +1,13 @@
 -- The theorem of specs/Matching, and that the contracts of the code are what it speaks of.
 use Prim.Native.Nat.{ℕ}
+use mathlib.Core.Bool.{Bool}
 use mathlib.Core.Path.{_≡_, refl, sym, ap, _∙_}
 use mathlib.Core.List.{List}
 use lib.ListN.{length}
 use Rattle.chip_registers.specs.Row.{rowSize}
 use Rattle.chip.specs.State.{Chip, named}
-use Rattle.chip.specs.Access.{Wrote, Seen, portWritten, portRead}
+use Rattle.chip.specs.Access.{Wrote as WroteTo, Seen, portWritten, portRead}
+use Rattle.chip.specs.Differ.{differ}
 use Rattle.chip.specs.Reset.{reset}
 use Rattle.chip.specs.View.{view, viewWrote, viewSeen, Shows}
 use Rattle.chip.specs.declared.Chip.{Chip as Kept}
@@ -17,7 +19,7 @@ use Rattle.chip_run.specs.Run.{Ran as RanTo, ran}
 use Rattle.chip_run.specs.View.{viewRan}
 use Rattle.chip_run.proofs.RunLaws.{run-keeps}
 use Rattle.chip_run.specs.declared.Ran.{Ran as KeptRan}
-use Rattle.chip_play.specs.Matching.{Act, Reset, Write, Read, Run, Play, Said, Nothing, Answered, Saw, Ran, Became, Gave, gives, gave, KeptGave, KeptAll, none, next, saidBy, leftBy, SmallerState}
+use Rattle.chip_play.specs.Matching.{Act, Reset, Write, Read, Run, Play, Said, Nothing, Wrote, Saw, Ran, Became, Gave, gives, gave, KeptGave, KeptAll, none, next, saidBy, leftBy, SmallerState}
 use Rattle.script_commands.specs.Translation.{translated}
 use Rattle.script_commands.specs.declared.Translated.{Translated}
 use Rattle.script_commands.specs.declared.Translated.the-variants.{Commands, Refused}
@@ -32,9 +34,13 @@ module _ (k : Kept) where
   reset-gave first second m size e = record { size = size; shown = ap (gives Nothing) e }
 
   pub write-gave : (p v : ℕ) (r : KeptWrote) → length (r .chip .row) ≡ rowSize → viewWrote r ≡ portWritten (view k) p v
-      → KeptGave k (Write p v) (Answered (r .answer)) (r .chip)
+      → r .changed ≡ differ (view k) (portWritten (view k) p v .chip) → KeptGave k (Write p v) (Wrote (r .answer) (r .before) (r .after) (r .changed)) (r .chip)
   unfolding gave
-  write-gave p v r size e = record { size = size; shown = ap (λ (w : Wrote). gives (Answered (w .answer)) (w .chip)) e }
+  write-gave p v r size e changed = record {
+    size = size;
+    shown = ap (λ (b : Bool). gives (Wrote (r .answer) (r .before) (r .after) b) (view (r .chip))) changed
+        ∙ ap (λ (w : WroteTo). gives (Wrote (w .answer) (w .before) (w .after) (differ (view k) (portWritten (view k) p v .chip))) (w .chip)) e;
+  }
 
   pub read-gave : (p : ℕ) (r : KeptSeen) → length (r .chip .row) ≡ rowSize → viewSeen r ≡ portRead (view k) p
       → KeptGave k (Read p) (Saw (r .answer) (r .value)) (r .chip)
@@ -42,9 +48,9 @@ module _ (k : Kept) where
   read-gave p r size e = record { size = size; shown = ap (λ (s : Seen). gives (Saw (s .answer) (s .value)) (s .chip)) e }
 
   pub run-gave : (bytes : List ℕ) (limit : ℕ) (r : KeptRan) → length (r .chip .row) ≡ rowSize → viewRan r ≡ ran (view k) bytes limit
-      → KeptGave k (Run bytes limit) (Ran (r .count) (r .ending)) (r .chip)
+      → KeptGave k (Run bytes limit) (Ran (r .count) (r .changing) (r .ending)) (r .chip)
   unfolding gave
-  run-gave bytes limit r size e = record { size = size; shown = ap (λ (x : RanTo). gives (Ran (x .count) (x .ending)) (x .chip)) e }
+  run-gave bytes limit r size e = record { size = size; shown = ap (λ (x : RanTo). gives (Ran (x .count) (x .changing) (x .ending)) (x .chip)) e }
 
   pub play-gave : (file : List ℕ) (room : ℕ) (r : KeptPerformance) → length (r .chip .row) ≡ rowSize → viewPerformance r ≡ played (view k) file room
       → KeptGave k (Play file room) (Became (r .outcome)) (r .chip)

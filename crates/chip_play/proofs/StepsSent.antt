@@ -2,13 +2,12 @@
 use Prim.Native.Nat.{ℕ, _+_, _%_, _-_}
 use mathlib.Core.Bool.{Bool, true, false}
 use mathlib.Core.Path.{_≡_, refl, _∙_}
-use mathlib.Core.List.{List, [], _∷_}
 use lib.Bits.{bitAnd, bitOr}
 use Rattle.lists.proofs.Tests.{and-both}
 use Rattle.chip_registers.specs.declared.Group.{Group}
 use Rattle.chip_ports.specs.Ports.{ports, target}
 use Rattle.chip.specs.State.{Named, join}
-use Rattle.chip.specs.Names.{register, received, portsOpen, picks3Dx}
+use Rattle.chip.specs.Names.{readByte, received, portsOpen, picks3Dx}
 use Rattle.chip.specs.Palette.{coloured, aimed, held, moved, loaded}
 use Rattle.chip.specs.Access.{portWritten}
 use Rattle.chip.specs.declared.Indexes.{Indexes}
@@ -18,75 +17,76 @@ use Rattle.script_steps.specs.declared.Step.{Step}
 use Rattle.script_steps.specs.declared.Step.the-variants.{Set, Field, Colour}
 use Rattle.script_commands.specs.Expansion.{ways, setBy, fieldBy, expanded}
 use Rattle.script_commands.specs.declared.Command.the-variants.{Out}
-use Rattle.script_commands.specs.declared.CommandRead.{CommandRead}
 use Rattle.script_commands.specs.declared.CommandRead.the-variants.{Known}
 use Rattle.script_commands.specs.declared.Ways.{Ways}
 use Rattle.script_commands.specs.declared.Ways.the-variants.{Pair, Pairs, Direct, Turns, Nowhere}
-use Rattle.chip_run.specs.Run.{one, done, carry}
+use Rattle.chip_run.specs.Run.{did, one, done}
+use Rattle.chip_run.specs.declared.Verdict.the-variants.{Done}
 use Rattle.chip_registers.specs.Groups.{groupAt}
 use Rattle.chip_play.specs.ByName.{applied}
-use Rattle.chip_play.proofs.Sends.{Sends, Any, At, sends-append, sends-from, sends-any, selects, stores, changes, passes, skips, ended}
+use Rattle.chip_play.proofs.Sends.{once, quietly, lastly, Sends, Any, At, sends-append, sends-after, sends-before, sends-from, sends-any, selects, stores, changes, passes, skips}
 use Rattle.chip_play.proofs.Turning.{aims, gives, gives-change}
 use Rattle.chip_play.proofs.Reaching.{Leads, leads, open-received}
 
 module _ (n : Named) (free : portsOpen n ≡ true) (g : Group) (i : ℕ) where
-  set-sent : (v : ℕ) (w : Ways) (b : Bool) → picks3Dx n ≡ b → Leads b g i w → Sends Any n (setBy w i v) (received g n i v) (At g i)
+  set-sent : (v : ℕ) (w : Ways) (b : Bool) → picks3Dx n ≡ b → Leads b g i w → Sends Any n (setBy w i v) (received g n i v) (At g i) (once n (received g n i v))
   set-sent v (Pair x p) b picks (on, kept) =
-      sends-append (selects n free b picks g i (λ y _. kept y) x (on .0)) (stores n free b picks g i (λ y h. h) p v (on .1))
+      sends-after (selects n free b picks g i (λ y _. kept y) x (on .0)) (stores n free b picks g i (λ y h. h) p v (on .1))
   set-sent v (Pairs x p y q) true picks (off, on, steady, kept) =
-      sends-append (sends-append (passes n free true picks x (off .0) i) (passes n free true picks p (off .1) v))
-      (sends-append (selects n free true picks g i (λ z _. kept z) y (on .0)) (stores n free true picks g i (λ z h. h) q v (on .1)))
+      sends-after (sends-append (passes n free true picks x (off .0) i) (passes n free true picks p (off .1) v))
+      (sends-after (selects n free true picks g i (λ z _. kept z) y (on .0)) (stores n free true picks g i (λ z h. h) q v (on .1)))
   set-sent v (Pairs x p y q) false picks (on, off, steady, kept) =
       let free′ = open-received g n i v ∙ free in
       let picks′ = steady n i v ∙ picks in
-      sends-append (sends-append (selects n free false picks g i (λ z _. kept z) x (on .0)) (stores n free false picks g i (λ z h. h) p v (on .1)))
+      sends-before (sends-after (selects n free false picks g i (λ z _. kept z) x (on .0)) (stores n free false picks g i (λ z h. h) p v (on .1)))
       (sends-append (passes _ free′ false picks′ y (off .0) i) (passes _ free′ false picks′ q (off .1) v))
   set-sent v (Direct w r) b picks (hw, hr, at) = sends-from (λ y _. at y) (stores n free b picks g i (λ y h. h) w v hw)
   set-sent v (Turns p r) b picks (is, writes, index, data-port, fits) =
-      rw is (sends-append (aims n free b picks p writes i fits index) (gives n free b picks p writes i fits v))
+      rw is (sends-after (aims n free b picks p writes i fits index) (gives n free b picks p writes i fits v))
   set-sent v Nowhere b picks none = absurd none
 
   field-sent : (k s : ℕ) (w : Ways) (b : Bool) → picks3Dx n ≡ b → Leads b g i w
-      → Sends Any n (fieldBy w i k s) (received g n i (bitOr (bitAnd (register g n i) k) s)) (At g i)
+      → (let m = received g n i (bitOr (bitAnd (readByte g n i) k) s) in Sends Any n (fieldBy w i k s) m (At g i) (once n m))
   field-sent k s (Pair x p) b picks (on, kept) =
-      sends-append (selects n free b picks g i (λ y _. kept y) x (on .0)) (changes n free b picks g i (λ y h. h) p p k s (on .1) (on .2))
+      sends-after (selects n free b picks g i (λ y _. kept y) x (on .0)) (changes n free b picks g i (λ y h. h) p p k s (on .1) (on .2))
   field-sent k s (Pairs x p y q) true picks (off, on, steady, kept) =
-      sends-append (sends-append (passes n free true picks x (off .0) i) (skips n free true picks p (off .1) k s (off .2)))
-      (sends-append (selects n free true picks g i (λ z _. kept z) y (on .0)) (changes n free true picks g i (λ z h. h) q q k s (on .1) (on .2)))
+      sends-after (sends-append (passes n free true picks x (off .0) i) (skips n free true picks p (off .1) k s (off .2)))
+      (sends-after (selects n free true picks g i (λ z _. kept z) y (on .0)) (changes n free true picks g i (λ z h. h) q q k s (on .1) (on .2)))
   field-sent k s (Pairs x p y q) false picks (on, off, steady, kept) =
-      let v = bitOr (bitAnd (register g n i) k) s in
+      let v = bitOr (bitAnd (readByte g n i) k) s in
       let free′ = open-received g n i v ∙ free in
       let picks′ = steady n i v ∙ picks in
-      sends-append (sends-append (selects n free false picks g i (λ z _. kept z) x (on .0)) (changes n free false picks g i (λ z h. h) p p k s (on .1) (on .2)))
+      sends-before (sends-after (selects n free false picks g i (λ z _. kept z) x (on .0)) (changes n free false picks g i (λ z h. h) p p k s (on .1) (on .2)))
       (sends-append (passes _ free′ false picks′ y (off .0) i) (skips _ free′ false picks′ q (off .1) k s (off .2)))
   field-sent k s (Direct w r) b picks (hw, hr, at) = sends-from (λ y _. at y) (changes n free b picks g i (λ y h. h) w r k s hw hr)
   field-sent k s (Turns p r) b picks (is, writes, index, data-port, fits) =
-      rw is (sends-append (aims n free b picks p writes i fits index) (gives-change n free b picks p writes i fits r k s data-port))
+      rw is (sends-after (aims n free b picks p writes i fits index) (gives-change n free b picks p writes i fits r k s data-port))
   field-sent k s Nowhere b picks none = absurd none
 
 -- COLOUR: the write index is written, whatever was half loaded is dropped, and the third byte stores the entry
-module _ (n : Named) (free : portsOpen n ≡ true) (x : Indexes) (l : Loading) (a v : ℕ) (rs : List CommandRead) where
-  aim : carry (join n x l) a (Known (Out 0x3C8 v) ∷ rs) ≡ carry (join n x (aimed l v false)) a rs
-  unfolding carry one done portWritten target ports
+module _ (n : Named) (free : portsOpen n ≡ true) (x : Indexes) (l : Loading) (a v : ℕ) where
+  aim : one (join n x l) a (Known (Out 0x3C8 v)) ≡ did Done a (join n x (aimed l v false))
+  unfolding one done portWritten target ports
   aim = rw free
 
-  load : carry (join n x l) a (Known (Out 0x3C9 v) ∷ rs) ≡ carry (join (loaded n l v) x (moved (held l v))) a rs
-  unfolding carry one done portWritten target ports
+  load : one (join n x l) a (Known (Out 0x3C9 v)) ≡ did Done a (join (loaded n l v) x (moved (held l v)))
+  unfolding one done portWritten target ports
   load = rw free
 
-colour-sent : {P : Indexes → Type 0} (n : Named) → portsOpen n ≡ true → (e r g b : ℕ) → Sends P n (expanded (Colour e r g b)) (coloured n e r g b) P
+colour-sent : {P : Indexes → Type 0} (n : Named) → portsOpen n ≡ true → (e r g b : ℕ)
+    → Sends P n (expanded (Colour e r g b)) (coloured n e r g b) P (once n (coloured n e r g b))
 unfolding loaded expanded
 colour-sent n free e r g b = record {
   runs = λ x l a h. (
     x,
     record { index = (e + 1) % 256; position = 0; red = r; green = g; reading = false },
     a,
-    aim n free x l a e _ ∙ load n free x _ a r _ ∙ load n free x _ a g _ ∙ load n free x _ a b [] ∙ ended _ _,
+    quietly (aim n free x l a e) refl (quietly (load n free x _ a r) refl (quietly (load n free x _ a g) refl (lastly (load n free x _ a b)))),
     h,
   );
 }
 
-pub step-sent : (s : Step) (n : Named) → legal s ≡ true → portsOpen n ≡ true → Sends Any n (expanded s) (applied s n) Any
+pub step-sent : (s : Step) (n : Named) → legal s ≡ true → portsOpen n ≡ true → Sends Any n (expanded s) (applied s n) Any (once n (applied s n))
 unfolding expanded applied legal
 step-sent (Set group i v) n lawful free = sends-any (set-sent n free (groupAt group) i v (ways group) (picks3Dx n) refl (leads (picks3Dx n) group i lawful))
 step-sent (Field group i v m) n lawful free =

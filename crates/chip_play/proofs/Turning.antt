@@ -13,18 +13,19 @@ use Rattle.chip_registers.specs.Indexes.{indexKept}
 use Rattle.chip_registers.specs.declared.Group.the-variants.{Ar}
 use Rattle.chip_ports.specs.Ports.{ports, target}
 use Rattle.chip_ports.specs.declared.Target.the-variants.{Data, Attribute, Status}
-use Rattle.chip.specs.State.{Named, join, withTurn, indexOf, withIndex}
-use Rattle.chip.specs.Names.{register, received, portsOpen, picks3Dx}
+use Rattle.chip.specs.State.{Chip, Named, join, withTurn, indexOf, withIndex}
+use Rattle.chip.specs.Names.{readByte, received, portsOpen, picks3Dx}
 use Rattle.chip.specs.Attribute.{attributeIndex, attributeAimed}
 use Rattle.chip.specs.Access.{portWritten, portRead}
 use Rattle.chip.specs.declared.Indexes.{Indexes}
 use Rattle.chip.specs.declared.Loading.{Loading}
 use Rattle.script_commands.specs.Expansion.{turned, change}
+use Rattle.script_commands.specs.declared.Command.{Command}
 use Rattle.script_commands.specs.declared.Command.the-variants.{Out, In, OutAcc}
-use Rattle.script_commands.specs.declared.CommandRead.{CommandRead}
 use Rattle.script_commands.specs.declared.CommandRead.the-variants.{Known}
-use Rattle.chip_run.specs.Run.{one, done, carry}
-use Rattle.chip_play.proofs.Sends.{Sends, Any, At, idle-in, fetch, merged, ended}
+use Rattle.chip_run.specs.Run.{did, one, done}
+use Rattle.chip_run.specs.declared.Verdict.the-variants.{Done}
+use Rattle.chip_play.proofs.Sends.{Goes, once, quietly, lastly, ended, Sends, Any, At, idle-in, fetch, merged}
 
 -- ---- the index that is written: bit 5 of the one that was read, and the register's
 keep-bit : (lit : Bool) (low i : ℕ) → low < 32 → i < 32 → bitOr (bitAnd (low + cond lit 0x20 0x00) 0x20) i ≡ cond lit 0x20 0x00 + i
@@ -45,28 +46,28 @@ unfolding indexKept
 kept-low true i = omega arith
 kept-low false i = omega arith
 
--- ---- one command at the head of a list
-module _ (n : Named) (x : Indexes) (l : Loading) (a : ℕ) (rs : List CommandRead) (free : portsOpen n ≡ true) (b : Bool) (picks : picks3Dx n ≡ b) (p : ℕ) where
-  turn-back : target b false p ≡ Status → carry (join n x l) a (Known (In p) ∷ rs) ≡ carry (join n (withTurn x false) l) 0x00 rs
-  unfolding carry one done portRead
+-- ---- what each kind of command does
+module _ (n : Named) (x : Indexes) (l : Loading) (a : ℕ) (free : portsOpen n ≡ true) (b : Bool) (picks : picks3Dx n ≡ b) (p : ℕ) where
+  turn-back : target b false p ≡ Status → one (join n x l) a (Known (In p)) ≡ did Done 0x00 (join n (withTurn x false) l)
+  unfolding one done portRead
   turn-back h = rw (free, picks, h)
 
-  see-index : target b false p ≡ Attribute → carry (join n x l) a (Known (In p) ∷ rs) ≡ carry (join n x l) (attributeIndex (join n x l)) rs
-  unfolding carry one done portRead
+  see-index : target b false p ≡ Attribute → one (join n x l) a (Known (In p)) ≡ did Done (attributeIndex (join n x l)) (join n x l)
+  unfolding one done portRead
   see-index h = rw (free, picks, h)
 
-  aim-acc : target b true p ≡ Attribute → x .turn ≡ false → carry (join n x l) a (Known (OutAcc p) ∷ rs) ≡ carry (attributeAimed (join n x l) a) a rs
-  unfolding carry one done portWritten
+  aim-acc : target b true p ≡ Attribute → x .turn ≡ false → one (join n x l) a (Known (OutAcc p)) ≡ did Done a (attributeAimed (join n x l) a)
+  unfolding one done portWritten
   aim-acc h t = rw (free, picks, h, t)
 
   -- a byte to the register, at the turn of data
   module _ (leads : target b true p ≡ Attribute) (turn : x .turn ≡ true) (i : ℕ) (at : indexOf Ar x ≡ i) where
-    give : (v : ℕ) → carry (join n x l) a (Known (Out p v) ∷ rs) ≡ carry (join (received Ar n i v) (withTurn x false) l) a rs
-    unfolding carry one done portWritten
+    give : (v : ℕ) → one (join n x l) a (Known (Out p v)) ≡ did Done a (join (received Ar n i v) (withTurn x false) l)
+    unfolding one done portWritten
     give v = rw (free, picks, leads, turn, at)
 
-    give-acc : carry (join n x l) a (Known (OutAcc p) ∷ rs) ≡ carry (join (received Ar n i a) (withTurn x false) l) a rs
-    unfolding carry one done portWritten
+    give-acc : one (join n x l) a (Known (OutAcc p)) ≡ did Done a (join (received Ar n i a) (withTurn x false) l)
+    unfolding one done portWritten
     give-acc = rw (free, picks, leads, turn, at)
 
 -- the attribute index is i, and data comes next
@@ -75,43 +76,52 @@ AtData i x = At Ar i x × (x .turn ≡ true)
 
 module _ (n : Named) (free : portsOpen n ≡ true) where
   -- both status ports are read: the turn is the index's
-  both-read : (b : Bool) → picks3Dx n ≡ b → (x : Indexes) (l : Loading) (a : ℕ) (rs : List CommandRead)
-      → carry (join n x l) a (Known (In 0x3BA) ∷ Known (In 0x3DA) ∷ rs) ≡ carry (join n (withTurn x false) l) (cond b 0x00 0xFF) rs
+  both-read : (b : Bool) → picks3Dx n ≡ b → (x : Indexes) (l : Loading) (a : ℕ) (cs : List Command) (d : Chip) (z k : ℕ)
+      → Goes (join n (withTurn x false) l) (cond b 0x00 0xFF) cs d z k → Goes (join n x l) a (In 0x3BA ∷ In 0x3DA ∷ cs) d z k
   unfolding target ports
-  both-read true picks x l a rs = idle-in n x l a _ free true picks 0x3BA refl ∙ turn-back n x l _ rs free true picks 0x3DA refl
-  both-read false picks x l a rs = turn-back n x l a _ free false picks 0x3BA refl ∙ idle-in n _ l _ rs free false picks 0x3DA refl
+  both-read true picks x l a cs d z k t =
+      quietly (idle-in n x l a free true picks 0x3BA refl) refl (quietly (turn-back n x l _ free true picks 0x3DA refl) refl t)
+  both-read false picks x l a cs d z k t =
+      quietly (turn-back n x l a free false picks 0x3BA refl) refl (quietly (idle-in n _ l _ free false picks 0x3DA refl) refl t)
 
   module _ (b : Bool) (picks : picks3Dx n ≡ b) (p : ℕ) (writes : target b true p ≡ Attribute) (i : ℕ) (fits : i < 32) where
     -- the index is written, and the picture stays
-    pub aims : target b false p ≡ Attribute → Sends Any n (turned p i) n (AtData i)
+    aimed : (x : Indexes) (l : Loading)
+        → (let v = cond (n .picture) 0x20 0x00 + i in
+        one (join n (withTurn x false) l) v (Known (OutAcc p)) ≡ did Done v (join n (withTurn (withIndex Ar x i) true) l))
+    aimed x l =
+        aim-acc n (withTurn x false) l _ free b picks p writes refl ∙ rw (kept-picture (n .picture) i fits, kept-low (n .picture) i) refl
+
+    pub aims : target b false p ≡ Attribute → Sends Any n (turned p i) n (AtData i) 0
     unfolding indexKept
     aims reads = record {
       runs = λ x l a _. (
         withTurn (withIndex Ar x i) true,
         l,
         cond (n .picture) 0x20 0x00 + i,
-        both-read b picks x l a _ ∙ see-index n (withTurn x false) l _ _ free b picks p reads ∙ merged _ _ 0x20 i _
-            ∙ ap (λ (v : ℕ). carry (join n (withTurn x false) l) v (Known (OutAcc p) ∷ [])) (keep-bit (n .picture) (indexOf Ar x) i (omega arith) fits)
-            ∙ aim-acc n (withTurn x false) l _ [] free b picks p writes refl
-            ∙ rw (kept-picture (n .picture) i fits, kept-low (n .picture) i) (ended _ _),
+        both-read b picks x l a _ _ _ _
+            (quietly (see-index n (withTurn x false) l _ free b picks p reads) refl
+            (quietly (merged (join n (withTurn x false) l) _ 0x20 i ∙ ap (λ (v : ℕ). did Done v (join n (withTurn x false) l)) (keep-bit (n .picture) (indexOf Ar x) i (omega arith) fits)) refl
+            (quietly (aimed x l) refl ended))),
         (omega arith, refl),
       );
     }
 
     -- then a byte, or a change
-    pub gives : (v : ℕ) → Sends (AtData i) n (Out p v ∷ []) (received Ar n i v) (At Ar i)
+    pub gives : (v : ℕ) → Sends (AtData i) n (Out p v ∷ []) (received Ar n i v) (At Ar i) (once n (received Ar n i v))
     gives v = record {
-      runs = λ x l a h. (withTurn x false, l, a, give n x l a [] free b picks p writes (h .1) i (h .0) v ∙ ended _ _, h .0);
+      runs = λ x l a h. (withTurn x false, l, a, lastly (give n x l a free b picks p writes (h .1) i (h .0) v), h .0);
     }
 
     pub gives-change : (r k s : ℕ) → target b false r ≡ Data Ar
-        → Sends (AtData i) n (change p r k s) (received Ar n i (bitOr (bitAnd (register Ar n i) k) s)) (At Ar i)
+        → (let m = received Ar n i (bitOr (bitAnd (readByte Ar n i) k) s) in Sends (AtData i) n (change p r k s) m (At Ar i) (once n m))
     gives-change r k s reads = record {
       runs = λ x l a h. (
         withTurn x false,
         l,
         _,
-        fetch n x l a _ free b picks r Ar i (h .0) reads ∙ merged _ _ k s _ ∙ give-acc n x l _ [] free b picks p writes (h .1) i (h .0) ∙ ended _ _,
+        quietly (fetch n x l a free b picks r Ar i (h .0) reads) refl
+            (quietly (merged (join n x l) _ k s) refl (lastly (give-acc n x l _ free b picks p writes (h .1) i (h .0)))),
         h .0,
       );
     }

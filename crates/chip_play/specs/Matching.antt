@@ -5,12 +5,14 @@
 -- `KeptGave`: the struct's row has its 275 bytes, and what is shown and said is what the definitions give from what was shown.
 -- The theorem is `smaller-state`, in proofs/Matching. It looks at no group: one argument for all, AR's included.
 use Prim.Native.Nat.{ℕ}
+use mathlib.Core.Bool.{Bool}
 use mathlib.Core.Path.{_≡_}
 use mathlib.Core.List.{List, [], _∷_}
 use lib.ListN.{length}
 use Rattle.chip_registers.specs.Row.{rowSize}
 use Rattle.chip.specs.State.{Chip}
 use Rattle.chip.specs.Access.{portWritten, portRead}
+use Rattle.chip.specs.Differ.{differ}
 use Rattle.chip.specs.Reset.{reset}
 use Rattle.chip.specs.Reach.{Reach}
 use Rattle.chip.specs.View.{view, Shows}
@@ -33,9 +35,9 @@ pub data Act : Type 0 where
 -- what it is told, the state apart
 pub data Said : Type 0 where
   Nothing : Said
-  Answered : Answer → Said
+  Wrote : Answer → ℕ → ℕ → Bool → Said
   Saw : Answer → ℕ → Said
-  Ran : ℕ → Ending → Said
+  Ran : ℕ → ℕ → Ending → Said
   Became : Outcome → Said
 
 -- what the old arrangement gives
@@ -48,9 +50,9 @@ gives s c = record { said = s; chip = c }
 
 unfoldable pub gave : Act → Chip → Gave
 gave (Reset first second) c = gives Nothing (reset first second)
-gave (Write p v) c = gives (Answered (portWritten c p v .answer)) (portWritten c p v .chip)
+gave (Write p v) c = gives (Wrote (portWritten c p v .answer) (portWritten c p v .before) (portWritten c p v .after) (differ c (portWritten c p v .chip))) (portWritten c p v .chip)
 gave (Read p) c = gives (Saw (portRead c p .answer) (portRead c p .value)) (portRead c p .chip)
-gave (Run bytes limit) c = gives (Ran (ran c bytes limit .count) (ran c bytes limit .ending)) (ran c bytes limit .chip)
+gave (Run bytes limit) c = gives (Ran (ran c bytes limit .count) (ran c bytes limit .changing) (ran c bytes limit .ending)) (ran c bytes limit .chip)
 gave (Play file room) c = gives (Became (played c file room .outcome)) (played c file room .chip)
 
 -- an act on what is kept, by its contract: from k, s is said and m is kept

@@ -7,6 +7,7 @@ use mathlib.Core.List.{List}
 use lib.Dec.{ltb}
 use Rattle.chip.specs.State.{Chip, named}
 use Rattle.chip.specs.Names.{portsOpen}
+use Rattle.chip.specs.Reset.{reset}
 use Rattle.script.specs.File.{stepCount}
 use Rattle.lists.specs.Numbers.{Returned, returned}
 use Rattle.script.specs.Numbers.{ofRefusal, checksTable}
@@ -15,7 +16,7 @@ use Rattle.script_commands.specs.Command.{bytesOfAll}
 use Rattle.script_commands.specs.Translation.{stepsTo, commandsTo, translated}
 use Rattle.script_commands.specs.declared.Translated.{Translated}
 use Rattle.script_commands.specs.declared.Translated.the-variants.{Commands, Refused}
-use Rattle.chip_run.specs.Run.{Ran, ran, ofEnding}
+use Rattle.chip_run.specs.Run.{Ran, ran, reads, altering, ofEnding}
 use Rattle.chip_run.specs.declared.Ending.the-variants.{Ended, Stopped}
 use Rattle.chip_run.specs.declared.Reason.the-variants.{Closed}
 use Rattle.chip_play.specs.ByName.{appliedAll}
@@ -27,13 +28,22 @@ pub record Performance : Type 0 where
   pub chip : Chip
   pub outcome : Outcome
 
+-- the chip of the listing and of the programs that play a script: document 02, P6, "the state after a reset with pin bytes FFh
+-- and FFh"
+abbrev pub fresh : Chip
+fresh = reset 0xFF 0xFF
+
 -- what a run gives the caller
 abbrev pub performed : Ran → Performance
-performed r = record { chip = r .chip; outcome = Played (r .count) (r .ending) }
+performed r = record { chip = r .chip; outcome = Played (r .count) (r .changing) (r .ending) }
 
 abbrev pub afterTranslation : Translated → Chip → List ℕ → Performance
 afterTranslation (Commands k) c file = performed (ran c (bytesOfAll (commandsTo file (stepCount file))) k)
 afterTranslation (Refused why) c file = record { chip = c; outcome = NotPlayed why }
+
+-- how many of a file's commands change a register or a colour, all of them run: document 02, P6
+abbrev pub changingOf : Chip → List ℕ → ℕ
+changingOf c file = altering c 0 (reads (bytesOfAll (commandsTo file (stepCount file))))
 
 unfoldable pub played : Chip → List ℕ → ℕ → Performance
 played c file room = afterTranslation (translated file room) c file
@@ -43,14 +53,14 @@ played c file room = afterTranslation (translated file room) c file
 pub record ByName (c : Chip) (file : List ℕ) (room : ℕ) (p : Performance) : Type 0 where
   pub refused : (why : Refusal) → translated file room ≡ Refused why → (p .outcome ≡ NotPlayed why) × (p .chip ≡ c)
   pub answers : (k : ℕ) → translated file room ≡ Commands k → portsOpen (named c) ≡ true
-      → (p .outcome ≡ Played k Ended) × (named (p .chip) ≡ appliedAll (stepsTo file (stepCount file)) (named c))
+      → (p .outcome ≡ Played k (changingOf c file) Ended) × (named (p .chip) ≡ appliedAll (stepsTo file (stepCount file)) (named c))
   pub closed : (k : ℕ) → translated file room ≡ Commands k → portsOpen (named c) ≡ false
-      → (p .outcome ≡ Played 0 (Stopped 0 Closed)) × (p .chip ≡ c)
+      → (p .outcome ≡ Played 0 0 (Stopped 0 Closed)) × (p .chip ≡ c)
 
 -- document 01's number and value for each outcome: that of the file's refusal, or of how the run ended
 abbrev pub ofOutcome : Outcome → Returned
 ofOutcome (NotPlayed why) = ofRefusal why
-ofOutcome (Played count ending) = ofEnding ending
+ofOutcome (Played count changing ending) = ofEnding ending
 
 -- the table of numbers for a script played, in its order: 8, 6, 7 or 11, 9, then 2 at place 0 while the ports are closed; else 0
 abbrev pub playTable : Chip → List ℕ → ℕ → Returned

@@ -13,10 +13,11 @@ use script::Refusal;
 use script_commands::Translated;
 use script_commands::translate;
 
-// What became of a script: it was refused, or its commands were run, so many of them, to this ending.
+// What became of a script: it was refused, or its commands were run: so many were carried out, so many of these changed a
+// register or a colour (document 02, P6), and the run ended so.
 pub enum Outcome {
     NotPlayed(Refusal),
-    Played(usize, Ending),
+    Played(usize, usize, Ending),
 }
 
 // The state after a script, and what became of it.
@@ -44,7 +45,7 @@ pub fn play(chip: Chip, file: &[u8], buffer: &mut [u8]) -> Performance
             let ending = ran.ending;
             Performance {
                 chip: next,
-                outcome: Outcome::Played(ran.count, ending),
+                outcome: Outcome::Played(ran.count, ran.changing, ending),
             }
         }
     }
