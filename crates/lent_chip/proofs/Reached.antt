@@ -10,15 +10,18 @@ use Rattle.chip_ports.specs.declared.Target.{Target}
 use Rattle.chip.specs.State.{Chip, named}
 use Rattle.chip.specs.Names.{portsOpen, picks3Dx}
 use Rattle.chip.specs.Access.{portWritten, portRead, writeTo, readFrom}
+use Rattle.chip.specs.declared.access.Answer.the-variants.{Closed}
+use Rattle.chip.proofs.DifferLaws.{unmoved}
 use Rattle.chip.proofs.Reached.{closed-write, closed-read, reached-write, reached-read}
 use Rattle.lent_chip.specs.Layout.{whole, view, Holds}
 use Rattle.lent_chip.specs.Accesses.{Left, WroteIn, ReadIn}
 use Rattle.lent_chip.proofs.Holding.{as-it-is}
+use Rattle.lent_chip.proofs.Words.{quiet-word}
 
 module _ {l : List ℕ} {o : Bool} (is : o ≡ portsOpen (named (view l))) where
   module _ (size : length l ≡ whole) (shut : not o ≡ true) where
-    pub write-closed : (p v : ℕ) → WroteIn l (portWritten (view l) p v) l 2
-    write-closed p v = rw (← closed-write (view l) p is shut v) (record { holds = as-it-is size; number = refl })
+    pub write-closed : (p v : ℕ) → WroteIn l (portWritten (view l) p v) l 0x0200FFFF
+    write-closed p v = rw (← closed-write (view l) p is shut v) (record { holds = as-it-is size; answer = quiet-word (view l) (view l) Closed (unmoved (view l) (view l) refl) })
 
     pub read-closed : (p : ℕ) → ReadIn l (portRead (view l) p) l 0x2FF
     read-closed p = rw (← closed-read (view l) p is shut) (record { holds = as-it-is size; number = refl; value = refl })

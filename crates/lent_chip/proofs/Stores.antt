@@ -271,6 +271,10 @@ module _ (l : List ℕ) (e r g b : ℕ) (n : length l ≡ whole) (h : e < 256) w
         };
       }))
 
+pub palette-length : (l : List ℕ) → length (view l .palette) ≡ 256
+unfolding view shownBy laid
+palette-length l = tab-length (colourIn l) 256
+
 pub get-colour : (l : List ℕ) (e : ℕ) → e < 256 → entry (named (view l)) e ≡ colourIn l e
 unfolding view shownBy laid
 get-colour l e h = tab-at (colourIn l) 256 e (rgb 0 0 0) h

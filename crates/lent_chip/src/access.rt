@@ -1,13 +1,13 @@
 // Port reads and writes on lent bytes, in place. Document 01, "Ports" and numbers 0, 1 and 2, and document 02, P1,
-// for the attribute registers, and P5, for the bits of an index. The text is that of crate `chip`'s methods, each
-// callee working on the bytes. A refused access changes no byte.
+// for the attribute registers, P5, for the bits of an index, and P6: what a write did to the register. The text is that
+// of crate `chip`'s methods, each callee working on the bytes. A refused access changes no byte.
 ghost use mathlib.Core.Path.{_≡_};
 ghost use Prim.Native.Nat.{_/_, _%_};
 ghost use lib.ListN.{length};
 ghost use Rattle.chip.specs.State.{withIndexes, indexByte, indexOf, withIndex};
 ghost use Rattle.chip.specs.Access.{writeTo, readFrom, portWritten, portRead};
 ghost use Rattle.lent_chip.specs.Layout.{whole, view, spare, Holds};
-ghost use Rattle.lent_chip.specs.Accesses.{Left, WroteIn, ReadIn};
+ghost use Rattle.lent_chip.specs.Accesses.{Left, Packed, WroteIn, ReadIn};
 ghost use Rattle.lent_chip.specs.Numbers.{writeTable, readTable};
 use crate::AR_INDEX;
 use crate::CR_INDEX;
@@ -37,13 +37,16 @@ use chip_registers::index_kept;
 // How many bytes a state has.
 pub const STATE: usize = 1057;
 
-// Document 01's numbers of an access. An access answers by its number, a read by 256 times the number plus the byte:
-// one number stays in a register, where an enum or a struct would go through memory.
-const DONE: u8 = 0;
+// Document 01's numbers of an access. An access answers by one word: of a read 256 times the number plus the byte, of a
+// write as specs/Accesses packs it. One number stays in a register, where an enum or a struct would go through memory.
+// Here are the writes that tell of no register: FFh twice.
+const DONE: u64 = 0x0000FFFF;
 
-const UNLISTED: u8 = 1;
+const UNLISTED: u64 = 0x0100FFFF;
 
-const CLOSED: u8 = 2;
+const CLOSED: u64 = 0x0200FFFF;
+
+const NO_STATE: u64 = 0xFF00FFFF;
 
 const UNLISTED_WORD: u16 = 0x1FF;
 
@@ -95,7 +98,7 @@ fn set_index(state: &mut [u8], g: Group, v: u8)
 }
 
 // A byte written where a port leads.
-fn write_to(state: &mut [u8], t: Target, v: u8) -> u8
+fn write_to(state: &mut [u8], t: Target, v: u8) -> u64
     requires { ⌜ length (now state) ≡ whole ⌝ }
     ensures { λ r. ⌜ WroteIn (now (state .entry)) (writeTo t (view (now (state .entry))) v) (now (state .exit)) r ⌝ }
 {
@@ -106,8 +109,7 @@ fn write_to(state: &mut [u8], t: Target, v: u8) -> u8
         }
         Target::Data(g) => {
             let i = index(state, g);
-            put(state, g, i, v);
-            DONE
+            put(state, g, i, v)
         }
         Target::ReadIndex => {
             aim(state, v, true);
@@ -117,14 +119,8 @@ fn write_to(state: &mut [u8], t: Target, v: u8) -> u8
             aim(state, v, false);
             DONE
         }
-        Target::Paldata => {
-            load(state, v);
-            DONE
-        }
-        Target::Attribute => {
-            write_attribute(state, v);
-            DONE
-        }
+        Target::Paldata => load(state, v),
+        Target::Attribute => write_attribute(state, v),
         Target::Status => UNLISTED,
         Target::NotPicked => DONE,
         Target::NotListed => UNLISTED,
@@ -132,7 +128,7 @@ fn write_to(state: &mut [u8], t: Target, v: u8) -> u8
 }
 
 // A port write on a state.
-fn write_in(state: &mut [u8], port: u16, v: u8) -> u8
+fn write_in(state: &mut [u8], port: u16, v: u8) -> u64
     requires { ⌜ length (now state) ≡ whole ⌝ }
     ensures { λ r. ⌜ WroteIn (now (state .entry)) (portWritten (view (now (state .entry))) port v) (now (state .exit)) r ⌝ }
 {
@@ -190,13 +186,13 @@ fn read_in(state: &mut [u8], port: u16) -> u16
     read_from(state, t)
 }
 
-// A port write, which answers by its number.
-pub fn write_number(state: &mut [u8], port: u16, v: u8) -> u8
-    ensures { λ r. ⌜ r ≡ writeTable (now (state .entry)) port v ⌝ }
+// A port write, which answers by a word.
+pub fn write_word(state: &mut [u8], port: u16, v: u8) -> u64
+    ensures { λ r. ⌜ Packed r (writeTable (now (state .entry)) port v) ⌝ }
     ensures { λ _. ⌜ Left (now (state .entry)) (portWritten (view (now (state .entry))) port v .chip) (spare (now (state .entry))) (now (state .exit)) ⌝ }
 {
     if state.len() != STATE {
-        return 255;
+        return NO_STATE;
     }
     write_in(state, port, v)
 }

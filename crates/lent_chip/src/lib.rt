@@ -1,22 +1,26 @@
-// The chip on bytes that a caller lends: any 1,057 bytes are a state (specs/Layout says which byte is what),
-// and every access works on them in place. Document 01, "Ports" (the state) and "Registers" and "Palette";
-// document 02, P1, for the attribute registers, and P7: the listed registers stand in one row, and an unlisted index
-// has no byte. Here are the registers by name, then the palette, then port 3C0h. The other indexes and the port
-// accesses are in access.rt; registers and colours as a host asks for them are crate `lent_names`'s.
-// A port access takes bytes of any length, and refuses all but a state's.
+// The chip on bytes that a caller lends: any 1,057 bytes are a state (specs/Layout says which byte is what), and every
+// access works on them in place. Document 01, "Ports" (the state) and "Registers" and "Palette"; document 02, P1, for
+// the attribute registers, P6: what a write did to the register, and P7: the listed registers stand in one row, and an
+// unlisted index has no byte. Here are the registers by name, then the palette, then port 3C0h. The other indexes and
+// the port accesses are in access.rt; registers and colours as a host asks for them are crate `lent_names`'s. A port
+// access takes bytes of any length, and refuses all but a state's.
 ghost use mathlib.Core.Path.{_≡_};
 ghost use Prim.Native.Nat.{_+_, _*_, _/_, _%_, _<_};
-ghost use mathlib.Core.Bool.{cond};
+ghost use mathlib.Core.Bool.{cond, not};
 ghost use lib.Dec.{eqb};
 ghost use lib.ListN.{length};
 ghost use Rattle.chip_registers.specs.Groups.{groupAt};
 ghost use Rattle.chip_registers.specs.WriteRule.{underLock};
-ghost use Rattle.chip.specs.State.{named, join, withNamed, withIndexes, withLoading, withTurn};
+ghost use Rattle.chip.specs.State.{named, join, withNamed, withIndexes, withLoading, withTurn, indexOf};
 ghost use Rattle.chip.specs.Names.{register, locked as lockedOf, received, portsOpen, picks3Dx, eightBit};
 ghost use Rattle.chip.specs.Palette.{byMode, coloured, aimed, held, moved, loaded, palstate as palstateOf, paldata as paldataOf};
-ghost use Rattle.chip.specs.Attribute.{attributeIndex, attributeAimed, attributeSet, attributeWritten};
+ghost use Rattle.chip.specs.Attribute.{attributeIndex, attributeAimed, attributeSet};
+ghost use Rattle.chip.specs.Access.{told as toldBy, attributeWrote, writeTo};
+ghost use Rattle.chip.specs.Differ.{sameStored};
+ghost use Rattle.chip_ports.specs.declared.Target.the-variants.{Paldata};
 ghost use Rattle.chip_masks.specs.Table.{standingOf};
 ghost use Rattle.lent_chip.specs.Layout.{whole, PALETTE, view, spare, baseOf, placeOf, thirdOf, Holds};
+ghost use Rattle.lent_chip.specs.Accesses.{WroteIn};
 use chip_masks::entry_at;
 use chip_registers::Group;
 use chip_registers::index_kept;
@@ -159,23 +163,34 @@ fn locked(state: &[u8], g: Group) -> bool
     locked_by(g, get_at(state, CR_GROUP, 0x11), state[FLAGS] / 4 % 2 == 1)
 }
 
+// A register's byte before a write and after it, as the write's word; 00h twice at an unlisted index. The choice is made
+// once, of the word.
+fn told(standing: u8, old: u8, new: u8) -> u64
+    ensures { λ r. ⌜ r ≡ 256 * cond (eqb (standing / 128 % 2) 1) old 0 + cond (eqb (standing / 128 % 2) 1) new 0 ⌝ }
+{
+    let w = 256 * (old as u64) + (new as u64);
+    if standing / 128 % 2 == 1 { w } else { 0 }
+}
+
 // A register receives a byte, by the number of its group and its index; `left` is what its lock leaves open.
-fn put_at(state: &mut [u8], n: u8, i: u8, v: u8, left: u8)
+fn put_at(state: &mut [u8], n: u8, i: u8, v: u8, left: u8) -> u64
     requires { ⌜ length (now state) ≡ whole ⌝ }
     requires { ⌜ left ≡ underLock (groupAt n) (lockedOf (groupAt n) (named (view (now state)))) i 0xFF ⌝ }
-    ensures { λ _. ⌜ Holds (now (state .exit)) (withNamed (view (now (state .entry))) (received (groupAt n) (named (view (now (state .entry)))) i v)) (spare (now (state .entry))) ⌝ }
+    ensures { λ r. ⌜ WroteIn (now (state .entry)) (toldBy (groupAt n) i (view (now (state .entry))) (withNamed (view (now (state .entry))) (received (groupAt n) (named (view (now (state .entry)))) i v))) (now (state .exit)) r ⌝ }
 {
     let e = entry_at(n, i);
     let at = place_from(n, i, e.standing);
     let mask = e.writable & left;
     let old = state[at];
-    state[at] = write(old, v, mask);
+    let new = write(old, v, mask);
+    state[at] = new;
+    told(e.standing, old, new)
 }
 
 // A register receives a byte, by name. Each group's number is written out, for the compiler.
-fn put(state: &mut [u8], g: Group, i: u8, v: u8)
+fn put(state: &mut [u8], g: Group, i: u8, v: u8) -> u64
     requires { ⌜ length (now state) ≡ whole ⌝ }
-    ensures { λ _. ⌜ Holds (now (state .exit)) (withNamed (view (now (state .entry))) (received g (named (view (now (state .entry)))) i v)) (spare (now (state .entry))) ⌝ }
+    ensures { λ r. ⌜ WroteIn (now (state .entry)) (toldBy g i (view (now (state .entry))) (withNamed (view (now (state .entry))) (received g (named (view (now (state .entry)))) i v))) (now (state .exit)) r ⌝ }
 {
     let left = under_lock(g, locked(state, g), i, 0xFF);
     match g {
@@ -299,43 +314,53 @@ fn move_on(state: &mut [u8])
     }
 }
 
-// A colour is stored at an entry, by the mode of this moment.
-fn put_colour(state: &mut [u8], e: u8, red: u8, green: u8, blue: u8)
+// A colour is stored at an entry, by the mode of this moment; whether the entry has another then.
+fn put_colour(state: &mut [u8], e: u8, red: u8, green: u8, blue: u8) -> bool
     requires { ⌜ length (now state) ≡ whole ⌝ }
     ensures { λ _. ⌜ Holds (now (state .exit)) (withNamed (view (now (state .entry))) (coloured (named (view (now (state .entry)))) e red green blue)) (spare (now (state .entry))) ⌝ }
+    ensures { λ r. ⌜ r ≡ not (sameStored (named (view (now (state .entry)))) (coloured (named (view (now (state .entry)))) e red green blue)) ⌝ }
 {
     let eight = is_eight_bit(state);
     let at = PALETTE + 3 * (e as usize);
-    state[at] = by_mode(eight, red);
-    state[at + 1] = by_mode(eight, green);
-    state[at + 2] = by_mode(eight, blue);
+    let r = by_mode(eight, red);
+    let g = by_mode(eight, green);
+    let b = by_mode(eight, blue);
+    let same = (state[at] == r) & (state[at + 1] == g) & (state[at + 2] == b);
+    state[at] = r;
+    state[at + 1] = g;
+    state[at + 2] = b;
+    !same
 }
 
-// A byte comes to PALDATA: held at red and green, and at blue the entry is stored.
-fn hold(state: &mut [u8], v: u8)
+// A byte comes to PALDATA: held at red and green, and at blue the entry is stored; whether it has another colour then.
+fn hold(state: &mut [u8], v: u8) -> bool
     requires { ⌜ length (now state) ≡ whole ⌝ }
     ensures { λ _. ⌜ Holds (now (state .exit)) (join (loaded (named (view (now (state .entry)))) (view (now (state .entry)) .loading) v) (view (now (state .entry)) .indexes) (held (view (now (state .entry)) .loading) v)) (spare (now (state .entry))) ⌝ }
+    ensures { λ r. ⌜ r ≡ not (sameStored (named (view (now (state .entry)))) (loaded (named (view (now (state .entry)))) (view (now (state .entry)) .loading) v)) ⌝ }
 {
     let p = state[POSITION];
     if p == 2 {
         let e = state[INDEX];
         let red = state[RED];
         let green = state[GREEN];
-        put_colour(state, e, red, green, v);
-    } else if p == 1 {
-        state[GREEN] = v;
-    } else {
-        state[RED] = v;
+        return put_colour(state, e, red, green, v);
     }
+    if p == 1 {
+        state[GREEN] = v;
+        return false;
+    }
+    state[RED] = v;
+    false
 }
 
-// A byte is written to PALDATA.
-fn load(state: &mut [u8], v: u8)
+// A byte is written to PALDATA: it tells of no register, and may change the entry at the index.
+fn load(state: &mut [u8], v: u8) -> u64
     requires { ⌜ length (now state) ≡ whole ⌝ }
-    ensures { λ _. ⌜ Holds (now (state .exit)) (join (loaded (named (view (now (state .entry)))) (view (now (state .entry)) .loading) v) (view (now (state .entry)) .indexes) (moved (held (view (now (state .entry)) .loading) v))) (spare (now (state .entry))) ⌝ }
+    ensures { λ r. ⌜ WroteIn (now (state .entry)) (writeTo Paldata (view (now (state .entry))) v) (now (state .exit)) r ⌝ }
 {
-    hold(state, v);
+    let changed = hold(state, v);
     move_on(state);
+    if changed { 0x10000FFFF } else { 0x0000FFFF }
 }
 
 // What PALSTATE reads.
@@ -390,24 +415,25 @@ fn aim_attribute(state: &mut [u8], v: u8)
 }
 
 // The register at the attribute index receives a byte: an index comes next.
-fn set_attribute(state: &mut [u8], v: u8)
+fn set_attribute(state: &mut [u8], v: u8) -> u64
     requires { ⌜ length (now state) ≡ whole ⌝ }
-    ensures { λ _. ⌜ Holds (now (state .exit)) (attributeSet (view (now (state .entry))) v) (spare (now (state .entry))) ⌝ }
+    ensures { λ r. ⌜ WroteIn (now (state .entry)) (toldBy Group.Ar (indexOf Group.Ar (view (now (state .entry)) .indexes)) (view (now (state .entry))) (attributeSet (view (now (state .entry))) v)) (now (state .exit)) r ⌝ }
 {
     let i = index_kept(Group::Ar, state[AR_INDEX]);
     let left = under_lock(Group::Ar, locked(state, Group::Ar), i, 0xFF);
-    put_at(state, AR_GROUP, i, v, left);
+    let word = put_at(state, AR_GROUP, i, v, left);
     set_turn(state, false);
+    word
 }
 
-// A byte is written to 3C0h.
-fn write_attribute(state: &mut [u8], v: u8)
+// A byte is written to 3C0h: to the register at the index, or of the index, which tells of no register.
+fn write_attribute(state: &mut [u8], v: u8) -> u64
     requires { ⌜ length (now state) ≡ whole ⌝ }
-    ensures { λ _. ⌜ Holds (now (state .exit)) (attributeWritten (view (now (state .entry))) v) (spare (now (state .entry))) ⌝ }
+    ensures { λ r. ⌜ WroteIn (now (state .entry)) (attributeWrote (view (now (state .entry))) v) (now (state .exit)) r ⌝ }
 {
     if state[FLAGS] / 2 % 2 == 1 {
-        set_attribute(state, v);
-    } else {
-        aim_attribute(state, v);
+        return set_attribute(state, v);
     }
+    aim_attribute(state, v);
+    0x0000FFFF
 }

@@ -1,5 +1,5 @@
 -- The byte is held or stored, then the position moves.
-use mathlib.Core.Path.{_∙_}
+use Rattle.lent_chip.proofs.Words.{then-loaded}
 use borrow.Author.Needs.{needs}
 use Rattle.lent_chip.proofs.load.Statement.{statement}
 use Rattle.lent_chip.proofs.load.Tie as tie
@@ -11,4 +11,6 @@ load-spec =
     (λ c κs. search needs)
     (λ c κs. search needs)
     (λ c. search needs)
-    (λ c. record { size = c .before .before .move-on .ensures .size; chip = c .before .before .move-on .ensures .chip ∙ rw (c .before .before .before .before .before .before .hold .ensures .chip); spare = c .before .before .move-on .ensures .spare ∙ c .before .before .before .before .before .before .hold .ensures .spare }))
+    (λ c. rw (c .if1 .taken) at (then-loaded (c .before .before .before .before .before .before .before .before .before .before .args .v) (c .before .before .before .before .before .before .before .hold .ensures .0) (c .before .before .before .before .before .before .before .hold .ensures .1) (c .before .before .before .move-on .ensures)))
+    (λ c. search needs)
+    (λ c. rw (c .if1 .left) at (then-loaded (c .before .before .before .before .before .before .before .before .before .before .args .v) (c .before .before .before .before .before .before .before .hold .ensures .0) (c .before .before .before .before .before .before .before .hold .ensures .1) (c .before .before .before .move-on .ensures))))

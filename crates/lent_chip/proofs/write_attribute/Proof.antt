@@ -1,6 +1,12 @@
 -- By the turn.
+use mathlib.Core.Path.{sym, _∙_}
 use borrow.Author.Tests.{eq-eqb, ne-eqb}
-use Rattle.lent_chip.proofs.Holding.{now-holds, turn-bit}
+use Rattle.chip.specs.declared.access.Answer.the-variants.{Done}
+use Rattle.chip.proofs.AttributeLaws.{attribute-data, attribute-index}
+use Rattle.chip.proofs.DifferLaws.{aimed-differs-not}
+use Rattle.lent_chip.specs.Layout.{view}
+use Rattle.lent_chip.proofs.Holding.{turn-bit}
+use Rattle.lent_chip.proofs.Words.{now-wrote, quietly}
 use borrow.Author.Needs.{needs}
 use Rattle.lent_chip.proofs.write_attribute.Statement.{statement}
 use Rattle.lent_chip.proofs.write_attribute.Tie as tie
@@ -11,8 +17,10 @@ write-attribute-spec =
     (tie.spec
     (λ c. search needs)
     (λ c κs. search needs)
+    (λ c. search needs)
+    (λ c. let s = c .before .before .before .before .before .before .before .args in
+    now-wrote (c .before .before .set-attribute .ensures) (sym (attribute-data (view (s .state .now)) (s .v) (turn-bit (s .state .now) ∙ eq-eqb _ _ (c .before .before .before .before .if1 .taken)))))
     (λ c κs. search needs)
     (λ c. search needs)
-    (λ c. now-holds (c .before .before .set-attribute .ensures) (rw (turn-bit _, eq-eqb _ _ (c .before .before .before .before .if1 .taken))))
-    (λ c. search needs)
-    (λ c. now-holds (c .before .before .aim-attribute .ensures) (rw (turn-bit _, ne-eqb _ _ (c .before .before .before .before .if1 .left)))))
+    (λ c. let s = c .before .before .before .before .before .before .before .args in
+    now-wrote (quietly Done (c .before .before .aim-attribute .ensures) (aimed-differs-not (view (s .state .now)) (s .v))) (sym (attribute-index (view (s .state .now)) (s .v) (turn-bit (s .state .now) ∙ ne-eqb _ _ (c .before .before .before .before .if1 .left))))))
