@@ -1,7 +1,7 @@
 -- Demand 3 on lent bytes: what the run answers and leaves is that of the run on the chip that they hold, of which crate
 -- `chip_play` says it.
 use Prim.Native.Nat.{ℕ, _≤_}
-use mathlib.Core.Path.{_≡_, ap, _∙_}
+use mathlib.Core.Path.{_≡_, ap, ap₂, _∙_}
 use mathlib.Core.Bool.{true}
 use mathlib.Core.List.{List}
 use lib.ListN.{length}
@@ -14,6 +14,7 @@ use Rattle.script_commands.specs.Command.{bytesOfAll}
 use Rattle.script_commands.specs.Translation.{commandsTo, begins}
 use Rattle.chip_play.specs.Demand3.{ranSteps}
 use Rattle.chip_play.proofs.Demand3.{after-steps}
+use Rattle.chip_play.proofs.StepsChanging.{changing-steps}
 use Rattle.lent_chip.specs.Layout.{whole, view, spare}
 use Rattle.lent_chip.specs.Accesses.{Left}
 use Rattle.lent_run.specs.Run.{runAnswer}
@@ -30,7 +31,9 @@ after-steps-in file m acc l size free n room r after gave left =
     let held = left .held size in
     record {
       ending = ranSteps (view l) file m n .ending;
-      answer = gave ∙ rw (eq-eqb (length l) whole size) (ap (λ (k : ℕ). Ran k (ranSteps (view l) file m n .ending)) (a .count));
+      answer =
+          gave ∙ rw (eq-eqb (length l) whole size)
+          (ap₂ (λ (k d : ℕ). Ran k d (ranSteps (view l) file m n .ending)) (a .count) (changing-steps file m acc (view l) free n room));
       unrefused = a .unrefused;
       byName = ap named (held .chip) ∙ a .byName;
       picture = ap (λ (c : Chip). c .picture) (held .chip) ∙ a .picture;

@@ -77,13 +77,14 @@ undone l file room n = record {
 module _ (l file : List ℕ) (room : ℕ) {m bytes : List ℕ} {k : ℕ} {x : LentRan} (n : length l ≡ whole) (is : translated file room ≡ Commands k)
     (front : bytes ≡ bytesOfAll (commandsTo file (stepCount file))) (answer : x ≡ runAnswer l bytes k)
     (left : Left l (ran (view l) bytes k .chip) (spare l) m) where
-  pub run-played : {count : ℕ} {e : Ending} → x ≡ RanTo count e → Did l file room m (Met (Played count e))
-  run-played {count} {e} gave =
+  pub run-played : {count changing : ℕ} {e : Ending} → x ≡ RanTo count changing e → Did l file room m (Met (Played count changing e))
+  run-played {count} {changing} {e} gave =
       let s = eq-eqb (length l) whole n in
       let c : count ≡ ran (view l) bytes k .count = cc (rw s at answer) in
+      let b : changing ≡ ran (view l) bytes k .changing = cc (rw s at answer) in
       let d : e ≡ ran (view l) bytes k .ending = cc (rw s at answer) in
       let same : performed (ran (view l) bytes k) ≡ played (view l) file room = played-commands (view l) file room k is front refl in
-      did l file room n (rw (← same) (left .held n)) refl (rw (c, d) (ap (λ (p : Performance). p .outcome) same))
+      did l file room n (rw (← same) (left .held n)) refl (rw (c, b, d) (ap (λ (p : Performance). p .outcome) same))
 
 -- on a state the run is never refused for its length
 pub not-length : (l bytes : List ℕ) (k : ℕ) {x : LentRan} → length l ≡ whole → x ≡ runAnswer l bytes k → x ≡ RunLength → ⊥

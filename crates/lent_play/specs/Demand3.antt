@@ -17,7 +17,7 @@ use Rattle.script_commands.specs.Command.{bytesOfAll}
 use Rattle.script_commands.specs.Translation.{stepsTo, commandsTo, begins}
 use Rattle.chip_run.specs.Run.{ofEnding}
 use Rattle.chip_run.specs.declared.Ending.{Ending}
-use Rattle.chip_play.specs.ByName.{appliedAll}
+use Rattle.chip_play.specs.ByName.{appliedAll, stepsChanging}
 use Rattle.chip_play.specs.Demand3.{ranSteps}
 use Rattle.lent_chip.specs.Layout.{whole, view, spare}
 use Rattle.lent_chip.specs.Accesses.{Left}
@@ -25,11 +25,12 @@ use Rattle.lent_run.specs.Run.{runAnswer}
 use Rattle.lent_run.specs.declared.LentRan.{LentRan}
 use Rattle.lent_run.specs.declared.LentRan.the-variants.{Ran}
 
--- what the run of the first n steps' commands answers and leaves of the bytes l: all of them were carried out, none was
--- refused, the registers and colours are what the steps say by name, and bit 5 of the attribute index is as it was
+-- what the run of the first n steps' commands answers and leaves of the bytes l: all of them were carried out, as many of them
+-- changed something as steps do by name (document 02, P6), none was refused, the registers and colours are what the steps say by
+-- name, and bit 5 of the attribute index is as it was
 pub record AfterStepsIn (l file : List ℕ) (n : ℕ) (r : LentRan) (after : List ℕ) : Type 0 where
   pub ending : Ending
-  pub answer : r ≡ Ran (begins file n) ending
+  pub answer : r ≡ Ran (begins file n) (stepsChanging (stepsTo file n) (named (view l))) ending
   pub unrefused : ofEnding ending ≡ returned 0 0
   pub byName : named (view after) ≡ appliedAll (stepsTo file n) (named (view l))
   pub picture : view after .picture ≡ view l .picture

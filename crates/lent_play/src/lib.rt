@@ -38,7 +38,7 @@ pub fn play(state: &mut [u8], file: &[u8], buffer: &mut [u8]) -> LentPlayed
         Translated::Commands(k) => {
             let end = 4 * k;
             match run(state, &buffer[..end], k) {
-                LentRan::Ran(n, e) => LentPlayed::Met(Outcome::Played(n, e)),
+                LentRan::Ran(n, m, e) => LentPlayed::Met(Outcome::Played(n, m, e)),
                 LentRan::Length => LentPlayed::Length,
             }
         }

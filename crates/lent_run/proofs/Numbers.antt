@@ -11,13 +11,13 @@ use Rattle.chip_run.proofs.RunNumbers.{run-number}
 use Rattle.lent_chip.specs.Layout.{view, spare}
 use Rattle.lent_chip.specs.Accesses.{isState, Left}
 use Rattle.lent_chip.specs.Numbers.{noState}
-use Rattle.lent_run.specs.Run.{runAnswer, ofLentRan, lentRunTable}
+use Rattle.lent_run.specs.Run.{answerOf, runAnswer, ofLentRan, lentRunTable}
 use Rattle.lent_run.specs.declared.LentRan.{LentRan}
-use Rattle.lent_run.specs.declared.LentRan.the-variants.{Ran as RanTo, Length}
+use Rattle.lent_run.specs.declared.LentRan.the-variants.{Length}
 
 pub lent-run-number : (l bytes : List ℕ) (limit : ℕ) → ofLentRan (runAnswer l bytes limit) ≡ lentRunTable l bytes limit
 lent-run-number l bytes limit =
-    of-cond ofLentRan (isState l) (RanTo (ran (view l) bytes limit .count) (ran (view l) bytes limit .ending)) Length
+    of-cond ofLentRan (isState l) (answerOf (ran (view l) bytes limit)) Length
     ∙ ap (λ (x : Returned). cond (isState l) x (returned noState 0)) (run-number (view l) bytes limit)
 
 -- what the contract of `run` says, from the answer and what is left

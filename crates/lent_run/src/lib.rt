@@ -1,7 +1,11 @@
 // The run of a list of commands on lent bytes, up to a limit, in place. Document 01, "Commands". The text is
 // that of crate `chip_run`, whose definition it meets on the chip that the bytes hold: no state is copied. A command
-// answers by document 01's number; its reason is made of that once, where the run stops.
+// answers by document 01's number; its reason is made of that once, where the run stops. Document 02, P6: how many
+// commands changed a register or a colour.
 ghost use mathlib.Core.Path.{_≡_};
+ghost use mathlib.Core.Bool.{not, cond, _||_};
+ghost use Prim.Native.Nat.{_/_, _%_};
+ghost use lib.Dec.{eqb, leb};
 ghost use lib.ListN.{length};
 ghost use Rattle.chip.specs.Access.{portWritten, portRead};
 ghost use Rattle.script_commands.specs.Command.{commandOf};
@@ -13,22 +17,24 @@ use chip_run::Ending;
 use chip_run::Reason;
 use lent_chip::access::STATE;
 use lent_chip::access::read_word;
-use lent_chip::access::write_number;
+use lent_chip::access::write_word;
 use script_commands::Command;
 use script_commands::CommandRead;
 use script_commands::command_of;
 
-// What a run answers: how many commands were carried out, and how it ended.
+// What a run answers: how many commands were carried out, how many of these changed a register or a colour, and how it
+// ended.
 pub enum LentRan {
-    Ran(usize, Ending),
+    Ran(usize, usize, Ending),
     // The bytes are no state: their length is wrong.
     Length,
 }
 
-// One command: its number, 0 where it is done, and the accumulator after it.
+// One command: its number, 0 where it is done, the accumulator after it, and 1 where a register or a colour differs then.
 struct Turn {
     number: u8,
     acc: u8,
+    changed: u8,
 }
 
 // The reason that a refused command's number stands for.
@@ -42,13 +48,28 @@ fn reason_of(n: u8) -> Reason
     }
 }
 
+// Whether a write's word says that a register or a colour differs: 1 or 0.
+fn changed_by(w: u64) -> u8
+    ensures { λ r. ⌜ r ≡ cond (not (eqb (w / 256 % 256) (w % 256)) || leb 4294967296 w) 1 0 ⌝ }
+{
+    if (w / 256 % 256 != w % 256) | (w >= 4294967296) {
+        1
+    } else {
+        0
+    }
+}
+
 // A command that writes a port. Each access tests the length of the state again: what is public takes bytes of any length.
 fn send(state: &mut [u8], acc: u8, port: u16, v: u8) -> Turn
     requires { ⌜ length (now state) ≡ whole ⌝ }
     ensures { λ r. ⌜ DidIn (now (state .entry)) (afterWrite acc (portWritten (view (now (state .entry))) port v)) (now (state .exit)) r ⌝ }
 {
-    let number = write_number(state, port, v);
-    Turn { number, acc }
+    let w = write_word(state, port, v);
+    Turn {
+        number: (w / 16777216 % 256) as u8,
+        acc,
+        changed: changed_by(w),
+    }
 }
 
 // A command that reads a port.
@@ -60,6 +81,7 @@ fn fetch(state: &mut [u8], port: u16) -> Turn
     Turn {
         number: (w / 256) as u8,
         acc: (w % 256) as u8,
+        changed: 0,
     }
 }
 
@@ -74,6 +96,7 @@ fn carry_out(state: &mut [u8], acc: u8, c: Command) -> Turn
         Command::Merge(keep, set) => Turn {
             number: 0,
             acc: (acc & keep) | set,
+            changed: 0,
         },
         Command::OutAcc(port) => send(state, acc, port, acc),
     }
@@ -85,7 +108,11 @@ fn command(state: &mut [u8], acc: u8, a: u8, b: u8, c: u8, d: u8) -> Turn
     ensures { λ r. ⌜ DidIn (now (state .entry)) (one (view (now (state .entry))) acc (commandOf a b c d)) (now (state .exit)) r ⌝ }
 {
     let CommandRead::Known(x) = command_of(a, b, c, d) else {
-        return Turn { number: 10, acc };
+        return Turn {
+            number: 10,
+            acc,
+            changed: 0,
+        };
     };
     carry_out(state, acc, x)
 }
@@ -97,14 +124,15 @@ fn run_in(state: &mut [u8], commands: &[u8], limit: usize) -> LentRan
 {
     let size = commands.len();
     if size % 4 != 0 {
-        return LentRan::Ran(0, Ending::Stopped(0, Reason::Form));
+        return LentRan::Ran(0, 0, Ending::Stopped(0, Reason::Form));
     }
     let mut acc: u8 = 0;
     let mut place: usize = 0;
+    let mut changing: usize = 0;
     let mut at: usize = 0;
     while at < size {
         if place == limit {
-            return LentRan::Ran(place, Ending::AtLimit);
+            return LentRan::Ran(place, changing, Ending::AtLimit);
         }
         let t = command(
             state,
@@ -117,13 +145,14 @@ fn run_in(state: &mut [u8], commands: &[u8], limit: usize) -> LentRan
         let n = t.number;
         if n != 0 {
             let why = reason_of(n);
-            return LentRan::Ran(place, Ending::Stopped(place, why));
+            return LentRan::Ran(place, changing, Ending::Stopped(place, why));
         }
         acc = t.acc;
+        changing += t.changed as usize;
         place += 1;
         at += 4;
     }
-    LentRan::Ran(place, Ending::Ended)
+    LentRan::Ran(place, changing, Ending::Ended)
 }
 
 // The commands of a list, up to a limit.

@@ -1,4 +1,5 @@
 -- The length is right, so the access is answered.
+use mathlib.Core.Path.{refl}
 use Rattle.lent_run.proofs.Turns.{fetched}
 use borrow.Author.Needs.{needs}
 use Rattle.lent_run.proofs.fetch.Statement.{statement}
@@ -12,4 +13,4 @@ fetch-spec =
     (λ c. search needs)
     (λ c. search needs)
     (λ c. search needs)
-    (λ c. fetched _ (c .before .before .before .before .before .pre) (c .before .before .read-word .ensures .0) (c .before .before .read-word .ensures .1 .0) (c .before .before .read-word .ensures .1 .1)))
+    (λ c. fetched _ (c .before .before .before .before .before .pre) (c .before .before .read-word .ensures .0) (c .before .before .read-word .ensures .1 .0) refl (c .before .before .read-word .ensures .1 .1)))

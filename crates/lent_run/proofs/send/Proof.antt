@@ -11,4 +11,6 @@ send-spec =
     (tie.spec
     (λ c κs. search needs)
     (λ c. search needs)
-    (λ c. sent _ (c .before .before .before .before .before .pre) _ (c .before .before .write-number .ensures .0) refl (c .before .before .write-number .ensures .1)))
+    (λ c κs. search needs)
+    (λ c. search needs)
+    (λ c. sent _ (c .before .before .before .before .before .before .pre) _ (c .before .before .before .write-word .ensures .0) refl (c .changed-by .ensures) refl (c .before .before .before .write-word .ensures .1)))
