@@ -1,13 +1,16 @@
 // Nanoseconds a port access, through the library and on a plain C model, from one run; and commands and scripts a second.
 //
 // The C model is a struct with a field to each part of the state and one switch on the port, with the writable bits in a table,
-// as emulators write it; it is compiled with -O3 and called as a function of its own, as the library is. Both work through the
-// same list of accesses: registers of the groups with an index port and a data port written and read, the palette loaded and read
-// back, and now and then any port from 3B0h to 3DFh, those of the attribute registers and unlisted ones among them. Before anything
-// is timed, the two are compared access by access, over that list and over one in which the attribute registers are frequent. A
-// time is the best of several turns, the two taking turns, so that the ratio is of one moment of one machine.
+// as emulators write it; it is compiled with -O3 and called as a function of its own, as the library is, and a write returns the
+// register's byte before and after as the library's does. Both work through the same list of accesses: registers of the groups
+// with an index port and a data port written and read, the palette loaded and read back, and now and then any port from 3B0h to
+// 3DFh, those of the attribute registers and unlisted ones among them. Before anything is timed, the two are compared access by
+// access, over that list and over one in which the attribute registers are frequent. A time is the best of several turns, the two
+// taking turns, so that the ratio is of one moment of one machine. Of the commands run, as many have to change a register or a
+// colour as on the model.
 
 #include <stdbool.h>
+#include <stddef.h>
 #include <stdint.h>
 #include <stdio.h>
 #include <stdlib.h>
@@ -55,8 +58,13 @@ static void reset(struct chip *c, uint8_t first, uint8_t second) {
     c->xr[0x71] = second;
 }
 
-static inline void store(uint8_t *byte, uint8_t value, uint8_t mask) {
-    *byte = (uint8_t)((*byte & ~mask) | (value & mask));
+// 256 times the register's byte before, plus its byte after; where no register receives the byte, NONE
+enum { NONE = 0xFFFF };
+
+static inline uint32_t store(uint8_t *byte, uint8_t value, uint8_t mask) {
+    uint8_t before = *byte, after = (uint8_t)((before & ~mask) | (value & mask));
+    *byte = after;
+    return (uint32_t)before << 8 | after;
 }
 
 static inline void move_on(struct chip *c) {
@@ -68,40 +76,39 @@ static inline void move_on(struct chip *c) {
     }
 }
 
-__attribute__((noinline)) static uint8_t port_write(struct chip *c, uint16_t port, uint8_t v) {
-    if (!(c->xr[0x70] & 2)) return 2;
+// the number in bits 24 to 31, and those two bytes
+__attribute__((noinline)) static uint32_t port_write(struct chip *c, uint16_t port, uint8_t v) {
+    if (!(c->xr[0x70] & 2)) return 2u << 24 | NONE;
     switch (port) {
     case 0x3B4:
     case 0x3D4:
         if ((port == 0x3D4) == (c->msr & 1)) c->cr_index = v;
-        return 0;
+        return NONE;
     case 0x3B5:
-    case 0x3D5:
-        if ((port == 0x3D5) == (c->msr & 1)) {
-            uint8_t i = c->cr_index, mask = writable[CR][i];
-            if (i < 8 && (c->cr[0x11] & 0x80)) mask &= i == 7 ? 0x10 : 0x00;
-            store(&c->cr[i], v, mask);
-        }
-        return 0;
+    case 0x3D5: {
+        if ((port == 0x3D5) != (c->msr & 1)) return NONE;
+        uint8_t i = c->cr_index, mask = writable[CR][i];
+        if (i < 8 && (c->cr[0x11] & 0x80)) mask &= i == 7 ? 0x10 : 0x00;
+        return store(&c->cr[i], v, mask);
+    }
     case 0x3C0:
-        if (!c->turn) {
+        c->turn = !c->turn;
+        if (c->turn) {
             c->ar_index = v & 0x1F;
             c->picture = v & 0x20;
-        } else if (!c->picture || c->ar_index > 0x0F) {
-            store(&c->ar[c->ar_index], v, writable[AR][c->ar_index]);
+            return NONE;
         }
-        c->turn = !c->turn;
-        return 0;
-    case 0x3C2: store(&c->msr, v, 0xEF); return 0;
-    case 0x3C4: c->sr_index = v & 0x07; return 0;
-    case 0x3C5: store(&c->sr[c->sr_index], v, writable[SR][c->sr_index]); return 0;
-    case 0x3C6: c->palmask = v; return 0;
+        return store(&c->ar[c->ar_index], v, c->picture && c->ar_index <= 0x0F ? 0x00 : writable[AR][c->ar_index]);
+    case 0x3C2: return store(&c->msr, v, 0xEF);
+    case 0x3C4: c->sr_index = v & 0x07; return NONE;
+    case 0x3C5: return store(&c->sr[c->sr_index], v, writable[SR][c->sr_index]);
+    case 0x3C6: return store(&c->palmask, v, 0xFF);
     case 0x3C7:
     case 0x3C8:
         c->index = v;
         c->position = 0;
         c->reading = port == 0x3C7;
-        return 0;
+        return NONE;
     case 0x3C9:
         if (c->position == 2) {
             uint8_t mask = c->xr[0x80] & 0x80 ? 0xFF : 0x3F;
@@ -112,16 +119,16 @@ __attribute__((noinline)) static uint8_t port_write(struct chip *c, uint16_t por
             c->held[c->position] = v;
         }
         move_on(c);
-        return 0;
-    case 0x3CE: c->gr_index = v & 0x0F; return 0;
-    case 0x3CF: store(&c->gr[c->gr_index], v, writable[GR][c->gr_index]); return 0;
-    case 0x3D0: c->fr_index = v; return 0;
-    case 0x3D1: store(&c->fr[c->fr_index], v, writable[FR][c->fr_index]); return 0;
-    case 0x3D2: c->mr_index = v; return 0;
-    case 0x3D3: store(&c->mr[c->mr_index], v, writable[MR][c->mr_index]); return 0;
-    case 0x3D6: c->xr_index = v; return 0;
-    case 0x3D7: store(&c->xr[c->xr_index], v, writable[XR][c->xr_index]); return 0;
-    default: return 1;
+        return NONE;
+    case 0x3CE: c->gr_index = v & 0x0F; return NONE;
+    case 0x3CF: return store(&c->gr[c->gr_index], v, writable[GR][c->gr_index]);
+    case 0x3D0: c->fr_index = v; return NONE;
+    case 0x3D1: return store(&c->fr[c->fr_index], v, writable[FR][c->fr_index]);
+    case 0x3D2: c->mr_index = v; return NONE;
+    case 0x3D3: return store(&c->mr[c->mr_index], v, writable[MR][c->mr_index]);
+    case 0x3D6: c->xr_index = v; return NONE;
+    case 0x3D7: return store(&c->xr[c->xr_index], v, writable[XR][c->xr_index]);
+    default: return 1u << 24 | NONE;
     }
 }
 
@@ -220,8 +227,14 @@ static uint8_t state[CHIPS69000_STATE_SIZE];
 static bool agree(struct access a) {
     uint32_t x = a.write ? chips69000_port_write(state, sizeof state, a.port, a.value) : chips69000_port_read(state, sizeof state, a.port);
     uint32_t y = a.write ? port_write(&plain, a.port, a.value) : port_read(&plain, a.port);
-    if (x != y) printf("%s %03X differs: %u and %u\n", a.write ? "OUT" : "IN", a.port, x, y);
+    if (x != y) printf("%s %03X differs: %08X and %08X\n", a.write ? "OUT" : "IN", a.port, x, y);
     return x == y;
+}
+
+// whether a register or a colour of the model differs
+static bool differs(const struct chip *x, const struct chip *y) {
+    return memcmp(x, y, offsetof(struct chip, cr_index)) || x->msr != y->msr || x->palmask != y->palmask ||
+           memcmp(x->palette, y->palette, sizeof x->palette);
 }
 
 // a port of the attribute registers, in either direction; MSR, which picks the port of input status 1, and XR09, which does nothing
@@ -279,8 +292,8 @@ static uint8_t translated(void) {
 }
 
 static uint8_t played(void) {
-    size_t count, value;
-    return chips69000_play(state, sizeof state, file, sizeof file, room, sizeof room, &count, &value);
+    size_t count, value, changing;
+    return chips69000_play(state, sizeof state, file, sizeof file, room, sizeof room, &count, &value, &changing);
 }
 
 // the longest script there is, of steps of every kind and group: how often a second it is checked, translated and played
@@ -331,21 +344,29 @@ int main(void) {
         if (x < library) library = x;
         if (y < model) model = y;
     }
-    // the same writes as commands, run on the state in one call
+    // the same writes as commands, run on the state in one call; before it the model makes them, and counts those that change it
     static uint8_t commands[4 * COUNT];
-    size_t size = 0, count = 0, place = 0;
-    for (int k = 0; k < COUNT; k++)
-        if (list[k].write && (uint8_t)port_write(&plain, list[k].port, list[k].value) == 0) {
+    size_t size = 0, count = 0, place = 0, changing = 0, changed = 0;
+    for (int k = 0; k < COUNT; k++) {
+        struct chip before = plain;
+        if (list[k].write && port_write(&plain, list[k].port, list[k].value) >> 24 == 0) {
             uint8_t one[4] = {1, (uint8_t)list[k].port, (uint8_t)(list[k].port >> 8), list[k].value};
             memcpy(commands + size, one, 4);
             size += 4;
+            changed += differs(&before, &plain);
         }
+    }
     double run = 1e9;
     for (int turn = 0; turn < 200; turn++) {
         double began = now();
-        if (chips69000_run(state, sizeof state, commands, size, SIZE_MAX, &count, &place) || 4 * count != size) return 1;
+        uint8_t number = chips69000_run(state, sizeof state, commands, size, SIZE_MAX, &count, &place, &changing);
+        if (number || 4 * count != size) return 1;
         double each = (now() - began) / (double)count;
         if (each < run) run = each;
+        if (turn == 0 && changing != changed) {
+            printf("run: %zu commands change something, on the model %zu\n", changing, changed);
+            return 1;
+        }
     }
     printf("run: %.1f million commands a second\n", 1000 / run);
     if (scripts()) return 1;

@@ -75,12 +75,17 @@ static uint8_t ask(uint8_t group, uint8_t index)
 
 /* The port accesses of the emulated processor end here. A port that is not listed is another device's: an emulator hands the
  * access on to the next one. Here there is none, and a chip whose ports are closed answers as little: a write is lost, and a read
- * finds the FFh of a bus that nobody drives. It does not end the emulator: every VGA BIOS reads 3CAh, which is not listed. */
-static void out(uint16_t port, uint8_t value)
+ * finds the FFh of a bus that nobody drives. It does not end the emulator: every VGA BIOS reads 3CAh, which is not listed.
+ *
+ * A write gives whether it changed its register. The word has the register's byte before and after, both FFh where the write is
+ * refused or goes to no register; so a colour that it loads, at 3C9h, is not seen here. */
+static bool out(uint16_t port, uint8_t value)
 {
-    unsigned number = chips69000_port_write(state, sizeof state, port, value);
-    if (number == CHIPS69000_UNLISTED || number == CHIPS69000_CLOSED) return;
-    if (number != CHIPS69000_DONE) fail("write to port %03Xh: %s (number %u)", (unsigned)port, meaning(number), number);
+    uint32_t word = chips69000_port_write(state, sizeof state, port, value);
+    unsigned number = word >> 24, before = word >> 8 & 0xFF, after = word & 0xFF;
+    if (number != CHIPS69000_DONE && number != CHIPS69000_UNLISTED && number != CHIPS69000_CLOSED)
+        fail("write to port %03Xh: %s (number %u)", (unsigned)port, meaning(number), number);
+    return before != after;
 }
 
 static uint8_t in(uint16_t port)
@@ -93,11 +98,11 @@ static uint8_t in(uint16_t port)
 }
 
 /* The chip's ports are a byte wide. A word is two accesses, the low byte first: so a word at an index port is the index, and then
- * the data at the port behind it. */
-static void out_word(uint16_t port, uint16_t value)
+ * the data at the port behind it. It gives whether the data changed its register. */
+static bool out_word(uint16_t port, uint16_t value)
 {
     out(port, (uint8_t)value);
-    out((uint16_t)(port + 1), (uint8_t)(value >> 8));
+    return out((uint16_t)(port + 1), (uint8_t)(value >> 8));
 }
 
 static uint16_t in_word(uint16_t port)
@@ -106,12 +111,12 @@ static uint16_t in_word(uint16_t port)
     return (uint16_t)(low | in((uint16_t)(port + 1)) << 8);
 }
 
-/* What a guest does as it starts: it reads the feature control, and goes on with whatever comes; it sets SR02 by a word. */
+/* What a guest does as it starts: it reads the feature control, and goes on with whatever comes; it sets SR02 by a word, and does
+ * so again, which changes nothing. */
 static void start_guest(void)
 {
     in(0x3CA);
-    out_word(0x3C4, 0x0F02);
-    if (ask(SR, 0x02) != 0x0F) fail("the guest's word went astray");
+    if (!out_word(0x3C4, 0x0F02) || out_word(0x3C4, 0x0F02) || ask(SR, 0x02) != 0x0F) fail("the guest's word went astray");
 }
 
 /* ---- A script is played, and the chip is asked what it set. */
@@ -135,7 +140,7 @@ static void play(const char *path, size_t *steps, size_t *commands)
     /* One byte more than the longest script, so that a longer file is seen to be longer, and refused. */
     static uint8_t file[BLOCKS * BLOCK + 1];
     static uint8_t bytes[STEPS * STEP_ROOM];
-    size_t length, value;
+    size_t length, value, changing;
     unsigned number;
 
     FILE *from = fopen(path, "rb");
@@ -149,8 +154,11 @@ static void play(const char *path, size_t *steps, size_t *commands)
 
     /* The commands need room, 32 bytes a step. After this call every register and colour is what the steps say by name. A host that
      * shares its time out translates once instead, and runs so many commands a call. */
-    number = chips69000_play(state, sizeof state, file, length, bytes, *steps * STEP_ROOM, commands, &value);
+    number = chips69000_play(state, sizeof state, file, length, bytes, *steps * STEP_ROOM, commands, &value, &changing);
     look_at_script(path, number, value);
+
+    /* How many commands changed a register or a colour. None is no refusal, but whoever wrote the script will want to know. */
+    if (changing == 0) fprintf(stderr, "host: %s: no command changed anything\n", path);
 }
 
 /* The caption below is made for this picture, with a byte a pixel. The picture is the first part of video memory, line by line. */

@@ -23,7 +23,7 @@ extern "C" {
 
 /* The version of the library, which rises wherever a C program can see a change, and of the bytes of a state, which rises wherever
  * the meaning of a byte changes. Keep the second beside bytes that are saved, and compare it when they come back. */
-#define CHIPS69000_VERSION 2
+#define CHIPS69000_VERSION 3
 #define CHIPS69000_STATE_VERSION 2
 
 /* The bytes of a state, and of the part's whole video memory. */
@@ -56,8 +56,11 @@ uint32_t chips69000_state_version(void);
 /* A reset, with the two bytes that the configuration pins show. It sets every byte, so a new state needs no clearing. */
 uint8_t chips69000_reset(uint8_t *state, size_t state_length, uint8_t first, uint8_t second);
 
-/* A port write. */
-uint8_t chips69000_port_write(uint8_t *state, size_t state_length, uint16_t port, uint8_t value);
+/* A port write: bits 0 to 7 are the register's byte after it and 8 to 15 its byte before, each as it reads; 16 to 23 are 0, 24 to
+ * 31 the number. An index that is not listed gives 00h twice, a protected register its byte twice, bit 4 of CR07 apart. Both are
+ * FFh where the number is not 0, and where no register receives the byte: for an index, also to 3C0h; at 3C7h, 3C8h and 3C9h; and
+ * at the CR pair that is not picked. */
+uint32_t chips69000_port_write(uint8_t *state, size_t state_length, uint16_t port, uint8_t value);
 
 /* A port read: the byte, plus 256 times the number. The byte is FFh where the number is not 0. */
 uint16_t chips69000_port_read(uint8_t *state, size_t state_length, uint16_t port);
@@ -103,15 +106,17 @@ uint8_t chips69000_write_script(const uint8_t *steps, size_t steps_length, uint8
 uint8_t chips69000_translate_script(const uint8_t *file, size_t file_length, uint8_t *commands, size_t commands_length,
                                     size_t *value);
 
-/* Commands run on a state, up to a limit. The count is of those carried out; the place is that of a refused one. */
+/* Commands run on a state, up to a limit. The count is of those carried out; the place is that of a refused one. Changing is how
+ * many of those carried out changed a register or a colour: after it a register of any group, or what an entry of the palette
+ * stores, differs from before. Indexes, bit 5 of the attribute index, the turn and a half loaded colour do not count. */
 uint8_t chips69000_run(uint8_t *state, size_t state_length, const uint8_t *commands, size_t commands_length, size_t limit,
-                       size_t *count, size_t *place);
+                       size_t *count, size_t *place, size_t *changing);
 
 /* A script file played on a state: translated into lent commands, 32 bytes a step, and run whole. Registers and colours are
  * afterwards what the steps say by name, and bit 5 of the attribute index, video enable, is as it was. The count is of the
- * commands carried out; the value is what the number says. */
+ * commands carried out, and changing as for a run; the value is what the number says. */
 uint8_t chips69000_play(uint8_t *state, size_t state_length, const uint8_t *file, size_t file_length, uint8_t *commands,
-                        size_t commands_length, size_t *count, size_t *value);
+                        size_t commands_length, size_t *count, size_t *value, size_t *changing);
 
 /* Where the commands of a step begin in the translation of a file: the value is the number of commands of the steps before it, and
  * past the last step the number of them all; steps count from 0. As the limit of a run it carries out those steps and no more. */

@@ -23,7 +23,7 @@ int main(void)
     static const uint8_t good[6] = {1, 3, 0x60, 0x43, 0, 0}, none[6] = {0}, idle[6] = {1, 3, 0x70, 0x43, 0, 0};
     static const uint8_t closing[4] = {1, 0xC8, 0x03, 0x00};
     uint8_t file[512] = {0};
-    size_t value, count, whole = CHIPS69000_STATE_SIZE, most = CHIPS69000_MEMORY_SIZE;
+    size_t value, count, changing, whole = CHIPS69000_STATE_SIZE, most = CHIPS69000_MEMORY_SIZE;
 
     EXPECT(CHIPS69000_VERSION, chips69000_version());
     EXPECT(CHIPS69000_STATE_VERSION, chips69000_state_version());
@@ -32,14 +32,16 @@ int main(void)
     EXPECT(CHIPS69000_NO_STATE, chips69000_reset(state, whole - 1, 0xFF, 0xFF));
     EXPECT(CHIPS69000_NO_STATE, chips69000_reset(state, whole + 1, 0xFF, 0xFF));
     EXPECT(CHIPS69000_NO_STATE, chips69000_register(state, whole + 1, 9, 0x00) >> 8);
+    EXPECT(CHIPS69000_NO_STATE, chips69000_port_write(state, whole + 1, 0x3CA, 0x00) >> 24);
     EXPECT(CHIPS69000_DONE, chips69000_reset(state, whole, 0xFF, 0xFF));
     EXPECT(CHIPS69000_NO_GROUP, chips69000_register(state, whole, 9, 0x00) >> 8);
 
-    EXPECT(CHIPS69000_UNLISTED, chips69000_port_write(state, whole, 0x3CA, 0x00));
-    EXPECT(CHIPS69000_COMMAND, chips69000_run(state, whole, closing, 3, 1, &count, &value));
+    EXPECT(CHIPS69000_UNLISTED, chips69000_port_write(state, whole, 0x3CA, 0x00) >> 24);
+    EXPECT(CHIPS69000_DONE, chips69000_port_write(state, whole, 0x3C8, 0x00) >> 24);
+    EXPECT(CHIPS69000_COMMAND, chips69000_run(state, whole, closing, 3, 1, &count, &value, &changing));
     EXPECT(CHIPS69000_DONE, chips69000_reset(state, whole, 0xFD, 0xFF));
     EXPECT(CHIPS69000_CLOSED, chips69000_port_read(state, whole, 0x3C8) >> 8);
-    EXPECT(CHIPS69000_CLOSED, chips69000_run(state, whole, closing, 4, 1, &count, &value));
+    EXPECT(CHIPS69000_CLOSED, chips69000_run(state, whole, closing, 4, 1, &count, &value, &changing));
 
     /* The part's whole memory is the longest. */
     EXPECT(CHIPS69000_DONE, chips69000_memory_write(memory, most, most - 1, 0x5A));

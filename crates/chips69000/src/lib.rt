@@ -8,12 +8,12 @@ ghost use Prim.Native.Nat.{_/_, _%_};
 ghost use Rattle.chip.specs.Access.{portWritten, portRead};
 ghost use Rattle.chip.specs.Reset.{reset as resetOf};
 ghost use Rattle.lent_chip.specs.Layout.{view, spare};
-ghost use Rattle.lent_chip.specs.Accesses.{Left};
+ghost use Rattle.lent_chip.specs.Accesses.{Left, Packed};
 ghost use Rattle.lent_chip.specs.Numbers.{writeTable, readTable};
 ghost use Rattle.lent_reset.specs.Fresh.{resetAnswer};
-ghost use Rattle.chips69000.specs.Numbers.{libraryVersion, stateVersion, resetNumber};
+ghost use Rattle.chips69000.specs.Numbers.{libraryVersion, stateVersion, resetNumber, inC};
 use lent_chip::access::read_word;
-use lent_chip::access::write_number;
+use lent_chip::access::write_word;
 use lent_reset::LentReset;
 use lent_reset::reset;
 
@@ -27,7 +27,7 @@ pub mod video;
 pub extern "C" fn chips69000_version() -> u32
     ensures { λ r. ⌜ r ≡ libraryVersion ⌝ }
 {
-    2
+    3
 }
 
 // The version of the bytes of a state: document 02, P7.
@@ -50,13 +50,13 @@ pub extern "C" fn chips69000_reset(state: &mut [u8], first: u8, second: u8) -> u
     }
 }
 
-// A port write.
+// A port write: bits 0 to 7 are the register's byte after it, 8 to 15 its byte before, 24 to 31 the number. Document 02, P6.
 #[no_mangle]
-pub extern "C" fn chips69000_port_write(state: &mut [u8], port: u16, value: u8) -> u8
-    ensures { λ r. ⌜ r ≡ writeTable (now (state .entry)) port value ⌝ }
+pub extern "C" fn chips69000_port_write(state: &mut [u8], port: u16, value: u8) -> u32
+    ensures { λ r. ⌜ Packed r (inC (writeTable (now (state .entry)) port value)) ⌝ }
     ensures { λ _. ⌜ Left (now (state .entry)) (portWritten (view (now (state .entry))) port value .chip) (spare (now (state .entry))) (now (state .exit)) ⌝ }
 {
-    write_number(state, port, value)
+    (write_word(state, port, value) % 4294967296) as u32
 }
 
 // A port read: 256 times the number, plus the byte.

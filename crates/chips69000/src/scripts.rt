@@ -13,7 +13,7 @@ ghost use Rattle.lent_chip.specs.Layout.{view, spare};
 ghost use Rattle.lent_chip.specs.Accesses.{Left};
 ghost use Rattle.lent_run.specs.Run.{runAnswer, ofLentRan};
 ghost use Rattle.lent_play.specs.Play.{playAnswer, ofLentPlayed, bufferLeft, ByNameIn};
-ghost use Rattle.chips69000.specs.Numbers.{runCount, countOf, playCount};
+ghost use Rattle.chips69000.specs.Numbers.{runCount, runChanging, countOf, changingOf, playCount, playChanging};
 use chip_play::Outcome;
 use chip_run::Ending;
 use chip_run::Reason;
@@ -107,7 +107,7 @@ fn of_outcome(o: Outcome) -> Two
 {
     match o {
         Outcome::NotPlayed(why) => refused(why),
-        Outcome::Played(_, e) => of_ending(e),
+        Outcome::Played(_, _, e) => of_ending(e),
     }
 }
 
@@ -116,7 +116,16 @@ fn count_of(o: Outcome) -> usize
 {
     match o {
         Outcome::NotPlayed(_) => 0,
-        Outcome::Played(n, _) => n,
+        Outcome::Played(n, _, _) => n,
+    }
+}
+
+fn changing_of(o: Outcome) -> usize
+    ensures { λ r. ⌜ r ≡ changingOf o ⌝ }
+{
+    match o {
+        Outcome::NotPlayed(_) => 0,
+        Outcome::Played(_, m, _) => m,
     }
 }
 
@@ -159,7 +168,8 @@ pub extern "C" fn chips69000_translate_script(
     t.number
 }
 
-// Commands run on the state, up to a limit; the count is of those carried out, the place a refusal's.
+// Commands run on the state, up to a limit; the count is of those carried out, the place a refusal's, and changing of those
+// that changed a register or a colour.
 #[no_mangle]
 pub extern "C" fn chips69000_run(
     state: &mut [u8],
@@ -167,29 +177,33 @@ pub extern "C" fn chips69000_run(
     limit: usize,
     count: &mut usize,
     place: &mut usize,
+    changing: &mut usize,
 ) -> u8
     ensures { λ r. ⌜ r ≡ ofLentRan (runAnswer (now (state .entry)) (now (commands .entry)) limit) .number ⌝ }
     ensures { λ _. ⌜ now (count .exit) ≡ runCount (runAnswer (now (state .entry)) (now (commands .entry)) limit) ⌝ }
     ensures { λ _. ⌜ now (place .exit) ≡ ofLentRan (runAnswer (now (state .entry)) (now (commands .entry)) limit) .value ⌝ }
+    ensures { λ _. ⌜ now (changing .exit) ≡ runChanging (runAnswer (now (state .entry)) (now (commands .entry)) limit) ⌝ }
     ensures { λ _. ⌜ Left (now (state .entry)) (ran (view (now (state .entry))) (now (commands .entry)) limit .chip) (spare (now (state .entry))) (now (state .exit)) ⌝ }
 {
     match run(state, commands, limit) {
-        LentRan::Ran(n, e) => {
+        LentRan::Ran(n, m, e) => {
             let t = of_ending(e);
             *count = n;
             *place = t.value;
+            *changing = m;
             t.number
         }
         LentRan::Length => {
             *count = 0;
             *place = 0;
+            *changing = 0;
             255
         }
     }
 }
 
 // A script file played on the state: the entry of demand 3. The commands go to lent bytes, 32 a
-// step; the count is of the commands carried out, the value as for a translation or a run.
+// step; the count is of the commands carried out, the value as for a translation or a run, and changing as for a run.
 #[no_mangle]
 pub extern "C" fn chips69000_play(
     state: &mut [u8],
@@ -197,10 +211,12 @@ pub extern "C" fn chips69000_play(
     commands: &mut [u8],
     count: &mut usize,
     value: &mut usize,
+    changing: &mut usize,
 ) -> u8
     ensures { λ r. ⌜ r ≡ ofLentPlayed (playAnswer (now (state .entry)) (now (file .entry)) (length (now (commands .entry)))) .number ⌝ }
     ensures { λ _. ⌜ now (count .exit) ≡ playCount (playAnswer (now (state .entry)) (now (file .entry)) (length (now (commands .entry)))) ⌝ }
     ensures { λ _. ⌜ now (value .exit) ≡ ofLentPlayed (playAnswer (now (state .entry)) (now (file .entry)) (length (now (commands .entry)))) .value ⌝ }
+    ensures { λ _. ⌜ now (changing .exit) ≡ playChanging (playAnswer (now (state .entry)) (now (file .entry)) (length (now (commands .entry)))) ⌝ }
     ensures { λ _. ⌜ Left (now (state .entry)) (played (view (now (state .entry))) (now (file .entry)) (length (now (commands .entry))) .chip) (spare (now (state .entry))) (now (state .exit)) ⌝ }
     ensures { λ _. ⌜ ByNameIn (now (state .entry)) (now (file .entry)) (length (now (commands .entry))) (now (state .exit)) (playAnswer (now (state .entry)) (now (file .entry)) (length (now (commands .entry)))) ⌝ }
     ensures { λ _. ⌜ now (commands .exit) ≡ bufferLeft (now (state .entry)) (now (file .entry)) (now (commands .entry)) ⌝ }
@@ -210,11 +226,13 @@ pub extern "C" fn chips69000_play(
             let t = of_outcome(o);
             *count = count_of(o);
             *value = t.value;
+            *changing = changing_of(o);
             t.number
         }
         LentPlayed::Length => {
             *count = 0;
             *value = 0;
+            *changing = 0;
             255
         }
     }

@@ -6,7 +6,7 @@ mod raw {
         pub fn chips69000_version() -> u32;
         pub fn chips69000_state_version() -> u32;
         pub fn chips69000_reset(state: *mut u8, state_length: usize, first: u8, second: u8) -> u8;
-        pub fn chips69000_port_write(state: *mut u8, state_length: usize, port: u16, value: u8) -> u8;
+        pub fn chips69000_port_write(state: *mut u8, state_length: usize, port: u16, value: u8) -> u32;
         pub fn chips69000_port_read(state: *mut u8, state_length: usize, port: u16) -> u16;
         pub fn chips69000_register(state: *const u8, state_length: usize, group: u8, index: u8) -> u16;
         pub fn chips69000_entry(state: *const u8, state_length: usize, entry: u8) -> u32;
@@ -27,14 +27,15 @@ mod raw {
             file: *const u8, file_length: usize, commands: *mut u8, commands_length: usize, value: *mut usize,
         ) -> u8;
         pub fn chips69000_step_commands(file: *const u8, file_length: usize, step: usize, value: *mut usize) -> u8;
+        #[allow(clippy::too_many_arguments)]
         pub fn chips69000_run(
             state: *mut u8, state_length: usize, commands: *const u8, commands_length: usize, limit: usize, count: *mut usize,
-            place: *mut usize,
+            place: *mut usize, changing: *mut usize,
         ) -> u8;
         #[allow(clippy::too_many_arguments)]
         pub fn chips69000_play(
             state: *mut u8, state_length: usize, file: *const u8, file_length: usize, commands: *mut u8,
-            commands_length: usize, count: *mut usize, value: *mut usize,
+            commands_length: usize, count: *mut usize, value: *mut usize, changing: *mut usize,
         ) -> u8;
     }
 }
@@ -51,8 +52,9 @@ pub fn reset(s: &mut [u8], first: u8, second: u8) -> u8 {
     unsafe { raw::chips69000_reset(s.as_mut_ptr(), s.len(), first, second) }
 }
 
-pub fn port_write(s: &mut [u8], port: u16, v: u8) -> u8 {
-    unsafe { raw::chips69000_port_write(s.as_mut_ptr(), s.len(), port, v) }
+/// The number, 0, and the byte before and after.
+pub fn port_write(s: &mut [u8], port: u16, v: u8) -> [u8; 4] {
+    unsafe { raw::chips69000_port_write(s.as_mut_ptr(), s.len(), port, v) }.to_be_bytes()
 }
 
 /// The number and the byte.
@@ -110,24 +112,27 @@ pub fn transfer(m: &mut [u8], t: Transfer) -> u8 {
     }
 }
 
-/// The number, the count and the place.
-pub fn run(s: &mut [u8], commands: &[u8], limit: usize) -> (u8, usize, usize) {
-    let (mut count, mut place) = (usize::MAX, usize::MAX);
+/// The number, the count, the place, and how many of the commands carried out changed a register or a colour.
+pub fn run(s: &mut [u8], commands: &[u8], limit: usize) -> (u8, usize, usize, usize) {
+    let [mut count, mut place, mut changing] = [usize::MAX; 3];
     let r = unsafe {
-        raw::chips69000_run(s.as_mut_ptr(), s.len(), commands.as_ptr(), commands.len(), limit, &mut count, &mut place)
+        raw::chips69000_run(
+            s.as_mut_ptr(), s.len(), commands.as_ptr(), commands.len(), limit, &mut count, &mut place, &mut changing,
+        )
     };
-    (r, count, place)
+    (r, count, place, changing)
 }
 
-/// The number, the count and the value.
-pub fn play(s: &mut [u8], file: &[u8], commands: &mut [u8]) -> (u8, usize, usize) {
-    let (mut count, mut value) = (usize::MAX, usize::MAX);
+/// The number, the count, the value, and how many of the commands carried out changed a register or a colour.
+pub fn play(s: &mut [u8], file: &[u8], commands: &mut [u8]) -> (u8, usize, usize, usize) {
+    let [mut count, mut value, mut changing] = [usize::MAX; 3];
     let r = unsafe {
         raw::chips69000_play(
             s.as_mut_ptr(), s.len(), file.as_ptr(), file.len(), commands.as_mut_ptr(), commands.len(), &mut count, &mut value,
+            &mut changing,
         )
     };
-    (r, count, value)
+    (r, count, value, changing)
 }
 
 /// The number and the value.

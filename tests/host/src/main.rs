@@ -1,6 +1,7 @@
 //! The library compared with an independent model, from fixed seeds: resets, port accesses, colours, registers by name, runs of
 //! commands, bytes of video memory and transfers, steps that are refused, scripts whole and damaged, scripts played, and bytes that
-//! are no state. A failure prints the input that differs, and the status is not 0.
+//! are no state. Of a write the whole word is compared, with the bytes before and after; of a run and a play also how many
+//! commands changed a register or a colour. A failure prints the input that differs, and the status is not 0.
 
 mod library;
 mod model;
@@ -8,7 +9,7 @@ mod script;
 mod video;
 
 use library::{Transfer, NO_STATE, STATE};
-use model::{Chip, Rows};
+use model::{Chip, Rows, MET};
 
 /// Numbers from a seed.
 struct Random(u64);
@@ -75,6 +76,56 @@ fn directed(r: &mut Random, write: bool) -> u16 {
     if other.contains(&p) && !r.one_in(16) { 0x3C0 } else { p }
 }
 
+/// An access: the port, the byte, and whether it is a write.
+type Access = (u16, u8, bool);
+
+/// Something stored, and stored again, half the time with a bit changed: a colour, half the time with the palette's mode written
+/// in between; MSR or PALMASK; an attribute register, with a picture or without; a CR register that CR11 may protect; a register
+/// of any index, listed or not. One CR pair of the two is not picked.
+fn twice(r: &mut Random) -> Vec<Access> {
+    let (index, value) = (r.byte(), r.byte());
+    let again = if r.one_in(2) { value } else { value ^ 1 << r.below(8) };
+    let write = |port: u16, v: u8| (port, v, true);
+    match r.below(8) {
+        0 | 1 => {
+            let (red, green) = (r.byte(), r.byte());
+            let colour = |blue| vec![write(0x3C8, index), write(0x3C9, red), write(0x3C9, green), write(0x3C9, blue)];
+            let mode = if r.one_in(2) { vec![write(0x3D6, 0x80), write(0x3D7, r.byte())] } else { vec![] };
+            [colour(value), mode, colour(again)].concat()
+        }
+        2 => {
+            let p = r.of(&[0x3C2, 0x3C6]);
+            vec![write(p, value), write(p, again)]
+        }
+        3 | 4 => {
+            let store = |v| vec![write(0x3C0, index), write(0x3C0, v)];
+            [vec![(0x3BA, 0, false), (0x3DA, 0, false)], store(value), store(again)].concat()
+        }
+        5 => {
+            let p = r.of(&[0x3B4, 0x3D4]);
+            vec![write(p, 0x11), write(p + 1, r.byte()), write(p, index & 7), write(p + 1, value), write(p + 1, again)]
+        }
+        _ => {
+            let p = r.of(&[0x3B4, 0x3D4, 0x3C4, 0x3CE, 0x3D6, 0x3D0, 0x3D2]);
+            vec![write(p, index), write(p + 1, value), write(p + 1, again)]
+        }
+    }
+}
+
+/// So many accesses, one at a time and seldom `twice`.
+fn drawn(r: &mut Random, count: usize) -> Vec<Access> {
+    let mut list = Vec::new();
+    while list.len() < count {
+        if r.one_in(16) {
+            list.extend(twice(r));
+        } else {
+            list.push((port(r), r.byte(), !r.one_in(3)));
+        }
+    }
+    list.truncate(count);
+    list
+}
+
 /// A state to start from: a reset's, or any bytes, with the ports open more often than not.
 fn start(r: &mut Random, rows: &Rows) -> Vec<u8> {
     let mut bytes = Vec::new();
@@ -104,22 +155,28 @@ fn resets(rows: &Rows, r: &mut Random) -> usize {
     1024
 }
 
+/// What the library returns of a write: the number, 0, and the bytes before and after.
+fn word((number, before, after): (u8, u8, u8)) -> [u8; 4] {
+    [number, 0, before, after]
+}
+
+/// Accesses one after the other, whose writes meet each of `MET`.
 fn accesses(rows: &Rows, r: &mut Random, rounds: usize, each: usize) -> usize {
-    let mut expected = Vec::new();
+    let (mut expected, mut met) = (Vec::new(), [0; MET.len()]);
     for round in 0..rounds {
         let mut s = start(r, rows);
         let mut c = Chip::from_bytes(rows, &s);
         c.to_bytes(rows, &mut expected);
         expect_bytes("a state as a chip", &s, &expected);
-        for k in 0..each {
-            let (p, v) = (port(r), r.byte());
+        for (k, (p, v, write)) in drawn(r, each).into_iter().enumerate() {
             let input;
-            if r.one_in(3) {
+            if write {
+                input = format!("round {round}, access {k}: OUT {p:03X} {v:02X}");
+                met.iter_mut().zip(c.meets(rows, p, v)).for_each(|(n, yes)| *n += usize::from(yes));
+                expect(&input, library::port_write(&mut s, p, v), word(c.write(rows, p, v)));
+            } else {
                 input = format!("round {round}, access {k}: IN {p:03X}");
                 expect(&input, library::port_read(&mut s, p), c.read(p));
-            } else {
-                input = format!("round {round}, access {k}: OUT {p:03X} {v:02X}");
-                expect(&input, library::port_write(&mut s, p, v), c.write(rows, p, v));
             }
             if k % 8 == 0 || k + 1 == each {
                 c.to_bytes(rows, &mut expected);
@@ -131,11 +188,14 @@ fn accesses(rows: &Rows, r: &mut Random, rounds: usize, each: usize) -> usize {
             expect(&format!("round {round}: colour of {p:02X}"), library::pixel(&s, p), [0, x, y, z]);
         }
     }
+    for (what, n) in MET.iter().zip(met) {
+        assert!(n > 1000, "only {n} writes {what} were tried");
+    }
     rounds * each
 }
 
 /// Registers and colours by name, of states that accesses leave: every number of a group, every index, every entry. Asking moves
-/// nothing, and the ports then read the same bytes.
+/// nothing; the ports then read the same bytes, and a write has them before and after.
 fn names(rows: &Rows, r: &mut Random, rounds: usize) -> usize {
     for round in 0..rounds {
         let mut s = start(r, rows);
@@ -179,6 +239,13 @@ fn names(rows: &Rows, r: &mut Random, rounds: usize) -> usize {
         library::port_write(&mut s, 0x3C7, e);
         let read = [0; 3].map(|_| library::port_read(&mut s, 0x3C9).1);
         expect(&format!("round {round}: port 3C9 at {e:02X}"), read, [stored[1], stored[2], stored[3]]);
+        for (group, pair) in (0..).zip(pairs) {
+            let index = library::port_read(&mut s, pair).1;
+            let before = library::register(&s, group, index).1;
+            let wrote = library::port_write(&mut s, pair + 1, r.byte());
+            let after = library::register(&s, group, index).1;
+            expect(&format!("round {round}: a write to {:03X} at {index:02X}", pair + 1), wrote, [0, 0, before, after]);
+        }
     }
     rounds * (65536 + 256)
 }
@@ -196,12 +263,27 @@ fn command(r: &mut Random) -> [u8; 4] {
     }
 }
 
-fn runs(rows: &Rows, r: &mut Random, rounds: usize) -> usize {
-    let (mut expected, mut done) = (Vec::new(), 0);
+/// An access as a command.
+fn commanded((port, value, write): Access) -> [u8; 4] {
+    let [low, high] = port.to_le_bytes();
+    if write { [1, low, high, value] } else { [2, low, high, 0] }
+}
+
+/// How many commands were carried out, and how many of them changed a register or a colour, in runs that ended, that met their
+/// limit, and that were stopped.
+fn runs(rows: &Rows, r: &mut Random, rounds: usize) -> (usize, [usize; 3]) {
+    let (mut expected, mut done, mut changing) = (Vec::new(), 0, [0; 3]);
     for round in 0..rounds {
         let mut s = start(r, rows);
         let mut c = Chip::from_bytes(rows, &s);
-        let mut bytes: Vec<u8> = (0..r.below(60)).flat_map(|_| command(r)).collect();
+        let mut bytes = Vec::new();
+        for _ in 0..r.below(60) {
+            if r.one_in(8) {
+                bytes.extend(twice(r).into_iter().flat_map(commanded));
+            } else {
+                bytes.extend(command(r));
+            }
+        }
         if r.one_in(10) {
             bytes.push(1);
         }
@@ -212,8 +294,9 @@ fn runs(rows: &Rows, r: &mut Random, rounds: usize) -> usize {
         c.to_bytes(rows, &mut expected);
         expect_bytes(&input, &s, &expected);
         done += got.1;
+        changing[if got.0 != 0 { 2 } else { usize::from(got.1 < bytes.len() / 4) }] += got.3;
     }
-    done
+    (done, changing)
 }
 
 /// A room is left and come back to: the bytes saved with their version answer as the room did, whatever was done in between.
@@ -222,10 +305,11 @@ fn saved(rows: &Rows, r: &mut Random, rounds: usize) -> usize {
         let mut s = start(r, rows);
         let mut other = start(r, rows);
         let kept = (library::versions().1, s.clone());
-        let ask = |s: &mut [u8], list: &[(u16, u8, bool)]| -> Vec<(u8, u8)> {
-            list.iter().map(|&(p, v, write)| if write { (library::port_write(s, p, v), 0) } else { library::port_read(s, p) }).collect()
+        let answer = |s: &mut [u8], (p, v, write): Access| -> Vec<u8> {
+            if write { library::port_write(s, p, v).into() } else { <[u8; 2]>::from(library::port_read(s, p)).into() }
         };
-        let accesses: Vec<_> = (0..100).map(|_| (port(r), r.byte(), r.one_in(2))).collect();
+        let ask = |s: &mut [u8], list: &[Access]| -> Vec<_> { list.iter().map(|&a| answer(s, a)).collect() };
+        let accesses = drawn(r, 100);
         let first = ask(&mut s, &accesses);
         ask(&mut other, &accesses);
         expect(&format!("round {round}: the version"), kept.0, library::versions().1);
@@ -246,14 +330,14 @@ fn lengths(r: &mut Random) -> usize {
         let mut s = kept.clone();
         let input = format!("{n} bytes");
         expect(&input, library::reset(&mut s, 2, 0), NO_STATE);
-        expect(&input, library::port_write(&mut s, 0x3C8, 1), NO_STATE);
+        expect(&input, [0x3C6, 0x3C8, 0x3CA].map(|p| library::port_write(&mut s, p, 1)), [[NO_STATE, 0, 0xFF, 0xFF]; 3]);
         expect(&input, library::port_read(&mut s, 0x3C8), (NO_STATE, 0xFF));
         expect(&input, library::pixel(&s, 1), [NO_STATE, 0, 0, 0]);
         expect(&input, library::entry(&s, 1), [NO_STATE, 0, 0, 0]);
         expect(&input, [0, 8, 9, 255].map(|group| library::register(&s, group, 1)), [(NO_STATE, 0xFF); 4]);
-        expect(&input, library::run(&mut s, &[1, 0xC8, 3, 1], 1), (NO_STATE, 0, 0));
+        expect(&input, [3, 4].map(|k| library::run(&mut s, &[1, 0xC6, 3, 1][..k], 1)), [(NO_STATE, 0, 0, 0); 2]);
         let mut commands = [0x5A; 64];
-        expect(&input, library::play(&mut s, &script, &mut commands), (NO_STATE, 0, 0));
+        expect(&input, library::play(&mut s, &script, &mut commands), (NO_STATE, 0, 0, 0));
         expect_bytes(&input, &commands, &[0x5A; 64]);
         expect_bytes(&input, &s, &kept);
         tried += 1;
@@ -465,7 +549,7 @@ fn judged(rows: &Rows, r: &mut Random) -> usize {
             let mut s = start(r, rows);
             s[rows.straps()] |= 2;
             let got = played(rows, &format!("{input}: played"), &mut s, &file, &mut out);
-            expect(&format!("{input}: played"), got, translated.0);
+            expect(&format!("{input}: played"), got.0, translated.0);
         }
     }
     cases().len()
@@ -539,9 +623,10 @@ fn scripts(rows: &Rows, r: &mut Random, rounds: usize) -> [Tally; 3] {
 }
 
 /// A file played on a state: what is left is what the commands do; registers, AR among them, and colours are what the steps say by
-/// name, after some of the steps too; and there is a picture if there was one. A refusal changes nothing, and closed ports refuse the
-/// first command. The number.
-fn played(rows: &Rows, input: &str, s: &mut [u8], file: &[u8], commands: &mut [u8]) -> u8 {
+/// name, after some of the steps too; and there is a picture if there was one. As many commands change something as in a run of
+/// those steps and one of the others after it. A refusal changes nothing, and closed ports refuse the first command. What the
+/// library returns.
+fn played(rows: &Rows, input: &str, s: &mut [u8], file: &[u8], commands: &mut [u8]) -> (u8, usize, usize, usize) {
     let mut expected = Vec::new();
     let mut kept = commands.to_vec();
     let mut part = s.to_vec();
@@ -553,7 +638,7 @@ fn played(rows: &Rows, input: &str, s: &mut [u8], file: &[u8], commands: &mut [u
     let translated = script::translate(rows, file, &mut kept);
     let want = match translated {
         (0, k) => after.run(rows, &kept[..4 * k], k),
-        (number, value) => (number, 0, value),
+        (number, value) => (number, 0, value, 0),
     };
     expect(input, got, want);
     after.to_bytes(rows, &mut expected);
@@ -562,25 +647,31 @@ fn played(rows: &Rows, input: &str, s: &mut [u8], file: &[u8], commands: &mut [u
 
     if translated.0 != 0 || !before.is_open() {
         expect(&format!("{input}, refused"), Chip::from_bytes(rows, s) == before, true);
-        return got.0;
+        return got;
     }
     let steps = script::steps(rows, file).unwrap();
     let some = usize::from(file[510]) % (steps.len() + 1);
     let limit = library::step_commands(file, some).1;
+    let all = &commands[..4 * translated.1];
+    let first = before.clone().run(rows, all, limit).3;
     let mut said = before;
     steps[..some].iter().for_each(|step| said.apply(rows, step));
-    expect(&format!("{input}, {some} steps"), library::run(&mut part, &commands[..4 * translated.1], limit), (0, limit, 0));
+    expect(&format!("{input}, {some} steps"), library::run(&mut part, all, limit), (0, limit, 0, first));
     expect_bytes(&format!("{input}, {some} steps by name"), &Chip::from_bytes(rows, &part).named(), &said.named());
     steps[some..].iter().for_each(|step| said.apply(rows, step));
-    expect(&format!("{input}, carried out"), got, (0, translated.1, 0));
+    let (count, changing) = (translated.1 - limit, got.3.wrapping_sub(first));
+    expect(&format!("{input}, the other steps"), library::run(&mut part, &all[4 * limit..], count), (0, count, 0, changing));
+    expect_bytes(&format!("{input}, the other steps"), &part, s);
+    expect(&format!("{input}, carried out"), got, (0, translated.1, 0, want.3));
     expect_bytes(&format!("{input}, by name"), &Chip::from_bytes(rows, s).named(), &said.named());
     expect(&format!("{input}, bit 5 of 3C0h"), library::port_read(s, 0x3C0).1 & 0x20, index.1 & 0x20);
-    0
+    got
 }
 
-/// Files, a few of them damaged, played on states whose indexes and turn are stale and whose colour may be half loaded.
-fn plays(rows: &Rows, r: &mut Random, rounds: usize) -> Tally {
-    let mut tally = Tally::default();
+/// Files, a few of them damaged, played on states whose indexes and turn are stale and whose colour may be half loaded. Beside
+/// the tally how many commands were carried out, and how many of them changed a register or a colour.
+fn plays(rows: &Rows, r: &mut Random, rounds: usize) -> (Tally, [usize; 2]) {
+    let (mut tally, mut totals) = (Tally::default(), [0; 2]);
     for round in 0..rounds {
         let mut s = start(r, rows);
         for _ in 0..r.below(30) {
@@ -598,9 +689,11 @@ fn plays(rows: &Rows, r: &mut Random, rounds: usize) -> Tally {
         let room = if r.one_in(20) { r.below(32 * count as u32) } else { 32 * count as u32 + r.below(9) } as usize;
         let mut commands: Vec<u8> = (0..room).map(|_| r.byte()).collect();
         let input = format!("play {round}: {:02X?} in {room} bytes", &file[6..6 + 6 * count]);
-        tally.add(played(rows, &input, &mut s, &file, &mut commands));
+        let (number, count, _, changing) = played(rows, &input, &mut s, &file, &mut commands);
+        tally.add(number);
+        totals = [totals[0] + count, totals[1] + changing];
     }
-    tally
+    (tally, totals)
 }
 
 fn main() {
@@ -609,8 +702,13 @@ fn main() {
     println!("{} resets agree", resets(&rows, r));
     println!("{} port accesses agree", accesses(&rows, r, 4000, 1000));
     println!("{} registers and colours by name agree", names(&rows, r, 200));
-    println!("{} commands of 100000 runs agree", runs(&rows, r, 100_000));
-    expect("the versions", library::versions(), (2, 2));
+    let (commands, [ended, limited, stopped]) = runs(&rows, r, 100_000);
+    println!(
+        "{commands} commands of 100000 runs agree; {} changed a register or a colour, {} in runs to a limit, {} in stopped ones",
+        ended + limited + stopped, limited, stopped
+    );
+    assert!(ended > 0 && limited > 0 && stopped > 0, "commands of runs of each ending change something");
+    expect("the versions", library::versions(), (3, 2));
     println!("{} rooms come back as they were saved", saved(&rows, r, 500));
     println!("{} lengths that are no state's are refused", lengths(r));
     println!("{} bytes of memory agree", memory(r, 10_000));
@@ -623,11 +721,12 @@ fn main() {
         "20000 scripts agree: {} written, {} accepted, {} translated, the others refused alike, with 11 {}, {} and {} of them",
         written.done, checked.done, translated.done, written.idle, checked.idle, translated.idle
     );
-    let played = plays(&rows, r, 50_000);
+    let (played, [commands, changing]) = plays(&rows, r, 50_000);
     println!(
         "50000 scripts played agree: {} did what they say by name, {} were refused alike and changed nothing, with 11 {} of them",
         played.done, 50_000 - played.done, played.idle
     );
+    println!("{commands} commands of scripts played agree; {changing} changed a register or a colour");
     for (way, tally) in [("written", written), ("checked", checked), ("translated", translated), ("played", played)] {
         assert!(tally.idle > 0, "no script that was {way} was refused with 11");
     }

@@ -1,5 +1,5 @@
-//! The chip, written from documents 01 and 02 (P1, P2, P5, P7) and from nothing else of this repository but the independent reading
-//! of the databook, tests/registers.csv, from which the rows of registers are taken.
+//! The chip, written from documents 01 and 02 (P1, P2, P5, P6, P7) and from nothing else of this repository but the independent
+//! reading of the databook, tests/registers.csv, from which the rows of registers are taken.
 
 use std::collections::HashMap;
 
@@ -42,6 +42,10 @@ impl Rows {
 
     pub fn reset(&self, g: usize, i: u8) -> u8 {
         self.bytes.get(&(g, i)).map_or(0, |r| r.1)
+    }
+
+    fn is_listed(&self, g: usize, i: u8) -> bool {
+        self.bytes.contains_key(&(g, i))
     }
 
     /// Where XR70 stands in a state, whose bit 1 opens the ports.
@@ -91,7 +95,22 @@ fn table(g: usize) -> usize {
     if g == AR { 6 } else { g }
 }
 
+/// What writes have to meet somewhere in a test.
+pub const MET: [&str; 10] = [
+    "to the CR pair that is not picked",
+    "of an attribute index",
+    "of an attribute register",
+    "to an index that is not listed",
+    "to a protected CR register",
+    "to a protected AR register",
+    "of the byte that was there",
+    "of a colour",
+    "of the colour that was there",
+    "of one that read the same and was stored otherwise",
+];
+
 /// What a port leads to.
+#[derive(PartialEq)]
 enum Port {
     Index(usize),
     Data(usize),
@@ -247,15 +266,16 @@ impl Chip {
         self.palette[entry as usize]
     }
 
+    /// Whether a register is protected: CR00 to CR07 by CR11, and AR00 to AR0F while there is a picture (chapter 12).
+    fn is_protected(&self, g: usize, i: u8) -> bool {
+        g == CR && i <= 7 && self.tables[CR][0x11] & 0x80 != 0 || g == AR && i <= 0x0F && self.picture
+    }
+
     /// A register receives a byte, by name.
     fn put(&mut self, rows: &Rows, g: usize, i: u8, v: u8) {
         let mut mask = rows.writable(g, i);
-        if g == CR && i <= 7 && self.tables[CR][0x11] & 0x80 != 0 {
-            mask &= if i == 7 { 0x10 } else { 0 };
-        }
-        // chapter 12: with the picture on, AR00 to AR0F are out of reach
-        if g == AR && i <= 0x0F && self.picture {
-            mask = 0;
+        if self.is_protected(g, i) {
+            mask &= if (g, i) == (CR, 7) { 0x10 } else { 0 };
         }
         let byte = Chip::write_rule(self.get(g, i), v, mask);
         match g {
@@ -287,11 +307,54 @@ impl Chip {
         bytes
     }
 
-    pub fn write(&mut self, rows: &Rows, port: u16, v: u8) -> u8 {
-        if !self.is_open() {
-            return 2;
+    /// Whether a register of any group or an entry of the palette stores another byte (document 02, P6). Bit 5 of the attribute
+    /// index, the other indexes, the turn and the palette's loading state are none of them.
+    fn differs(&self, other: &Chip) -> bool {
+        self.tables != other.tables || (self.msr, self.palmask) != (other.msr, other.palmask) || self.palette != other.palette
+    }
+
+    /// The register that a data write goes to.
+    fn aim(&self, p: &Port) -> Option<(usize, u8)> {
+        match *p {
+            Port::Data(g) => Some((g, self.index_of(g))),
+            Port::Attribute if self.turn => Some((AR, self.index_of(AR))),
+            Port::Msr => Some((MSR, 0)),
+            Port::Palmask => Some((PALMASK, 0)),
+            _ => None,
         }
-        let Some(p) = self.leads(port, true) else { return 1 };
+    }
+
+    /// Of each of `MET`, whether this write meets it.
+    pub fn meets(&self, rows: &Rows, port: u16, v: u8) -> [bool; MET.len()] {
+        let p = self.leads(port, true).filter(|_| self.is_open());
+        let name = p.as_ref().and_then(|p| self.aim(p));
+        let of = |test: &dyn Fn(usize, u8) -> bool| name.is_some_and(|(g, i)| test(g, i));
+        let loads = p == Some(Port::Paldata) && self.at() == 2;
+        let was = self.palette[self.index as usize];
+        let is = [self.held[0], self.held[1], v].map(|x| self.by_mode(x));
+        [
+            p == Some(Port::NotPicked),
+            p == Some(Port::Attribute) && !self.turn,
+            p == Some(Port::Attribute) && self.turn,
+            of(&|g, i| !rows.is_listed(g, i)),
+            of(&|g, i| g == CR && self.is_protected(g, i)),
+            of(&|g, i| g == AR && self.is_protected(g, i)),
+            of(&|g, i| rows.is_listed(g, i) && self.get(g, i) == v),
+            loads,
+            loads && was == is,
+            loads && was != is && was.map(|x| self.by_mode(x)) == is,
+        ]
+    }
+
+    /// A port write (document 02, P6): the number, and before and after it the byte of the register that it goes to, as it reads;
+    /// FFh twice where it goes to none.
+    pub fn write(&mut self, rows: &Rows, port: u16, v: u8) -> (u8, u8, u8) {
+        if !self.is_open() {
+            return (2, 0xFF, 0xFF);
+        }
+        let Some(p) = self.leads(port, true) else { return (1, 0xFF, 0xFF) };
+        let name = self.aim(&p);
+        let before = name.map_or(0xFF, |(g, i)| self.get(g, i));
         match p {
             Port::Index(g) => self.set_index(g, v),
             Port::Data(g) => self.put(rows, g, self.index_of(g), v),
@@ -318,7 +381,7 @@ impl Chip {
             Port::Status => unreachable!("no write leads to input status 1"),
             Port::NotPicked => {}
         }
-        0
+        (0, before, name.map_or(0xFF, |(g, i)| self.get(g, i)))
     }
 
     pub fn read(&mut self, port: u16) -> (u8, u8) {
@@ -353,19 +416,20 @@ impl Chip {
         entry.map(|v| if self.is_eight_bit() { v } else { v % 64 * 4 })
     }
 
-    /// The number, the count and the place.
-    pub fn run(&mut self, rows: &Rows, bytes: &[u8], limit: usize) -> (u8, usize, usize) {
+    /// The number, the count, the place, and how many of the commands carried out changed a register or a colour.
+    pub fn run(&mut self, rows: &Rows, bytes: &[u8], limit: usize) -> (u8, usize, usize, usize) {
         if bytes.len() % 4 != 0 {
-            return (10, 0, 0);
+            return (10, 0, 0, 0);
         }
-        let mut acc = 0;
+        let (mut acc, mut changing) = (0, 0);
         for (place, c) in bytes.chunks(4).enumerate() {
             if place == limit {
-                return (0, place, 0);
+                return (0, place, 0, changing);
             }
+            let before = self.clone();
             let port = u16::from_le_bytes([c[1], c[2]]);
             let number = match c[0] {
-                1 => self.write(rows, port, c[3]),
+                1 => self.write(rows, port, c[3]).0,
                 2 if c[3] == 0 => {
                     let (n, v) = self.read(port);
                     acc = v;
@@ -375,13 +439,14 @@ impl Chip {
                     acc = acc & c[1] | c[2];
                     0
                 }
-                4 if c[3] == 0 => self.write(rows, port, acc),
+                4 if c[3] == 0 => self.write(rows, port, acc).0,
                 _ => 10,
             };
             if number != 0 {
-                return (number, place, place);
+                return (number, place, place, changing);
             }
+            changing += usize::from(self.differs(&before));
         }
-        (0, bytes.len() / 4, 0)
+        (0, bytes.len() / 4, 0, changing)
     }
 }

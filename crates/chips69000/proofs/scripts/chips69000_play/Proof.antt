@@ -11,10 +11,15 @@ chips69000-play-spec =
     (λ c. search needs)
     (λ c κs. search needs)
     (λ c κs. search needs)
+    (λ c κs. search needs)
     (λ c. search needs)
     (λ c. search needs)
     (λ c. search needs)
-    (λ c. (rw (← c .before .before .before .before .before .before .before .before .before .play .ensures .0, c .before .before .before .o .given .1) (c .before .of-outcome .ensures .0), (rw (← c .before .before .before .before .before .before .before .before .before .play .ensures .0, c .before .before .before .o .given .1) (c .count-of .ensures), (rw (← c .before .before .before .before .before .before .before .before .before .play .ensures .0, c .before .before .before .o .given .1) (c .before .of-outcome .ensures .1), (c .before .before .before .before .before .before .before .before .before .play .ensures .1 .0, (rw (← c .before .before .before .before .before .before .before .before .before .play .ensures .0) (c .before .before .before .before .before .before .before .before .before .play .ensures .1 .1 .0), c .before .before .before .before .before .before .before .before .before .play .ensures .1 .1 .1 .0))))))
+    (λ c. let p = c .before .before .before .before .before .before .before .before .before .before .play .ensures in
+    let is = c .before .before .before .before .o .given .1 in
+    (rw (← p .0, is) (c .before .before .of-outcome .ensures .0), (rw (← p .0, is) (c .before .count-of .ensures), (rw (← p .0, is) (c .before .before .of-outcome .ensures .1), (rw (← p .0, is) (c .changing-of .ensures), (p .1 .0, (rw (← p .0) (p .1 .1 .0), p .1 .1 .1 .0)))))))
     (λ c. search needs)
     (λ c. search needs)
-    (λ c. (rw (← c .before .before .before .before .before .before .play .ensures .0, c .enum-told .given .1), (rw (← c .before .before .before .before .before .before .play .ensures .0, c .enum-told .given .1), (rw (← c .before .before .before .before .before .before .play .ensures .0, c .enum-told .given .1), (c .before .before .before .before .before .before .play .ensures .1 .0, (rw (← c .before .before .before .before .before .before .play .ensures .0) (c .before .before .before .before .before .before .play .ensures .1 .1 .0), c .before .before .before .before .before .before .play .ensures .1 .1 .1 .0)))))))
+    (λ c. let p = c .before .before .before .before .before .before .play .ensures in
+    let is = c .enum-told .given .1 in
+    (rw (← p .0, is), (rw (← p .0, is), (rw (← p .0, is), (rw (← p .0, is), (p .1 .0, (rw (← p .0) (p .1 .1 .0), p .1 .1 .1 .0))))))))

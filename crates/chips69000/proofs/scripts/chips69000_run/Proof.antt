@@ -12,6 +12,6 @@ chips69000-run-spec =
     (λ c κs. search needs)
     (λ c. search needs)
     (λ c. search needs)
-    (λ c. (rw (← c .before .before .before .before .before .before .run .ensures .0, c .before .before .n .given .1) (c .of-ending .ensures .0), (rw (← c .before .before .before .before .before .before .run .ensures .0, c .before .before .n .given .1), (rw (← c .before .before .before .before .before .before .run .ensures .0, c .before .before .n .given .1) (c .of-ending .ensures .1), c .before .before .before .before .before .before .run .ensures .1 .0))))
+    (λ c. (rw (← c .before .before .before .before .before .before .run .ensures .0, c .before .before .n .given .1) (c .of-ending .ensures .0), (rw (← c .before .before .before .before .before .before .run .ensures .0, c .before .before .n .given .1), (rw (← c .before .before .before .before .before .before .run .ensures .0, c .before .before .n .given .1) (c .of-ending .ensures .1), (rw (← c .before .before .before .before .before .before .run .ensures .0, c .before .before .n .given .1), c .before .before .before .before .before .before .run .ensures .1 .0)))))
     (λ c. search needs)
-    (λ c. (rw (← c .before .before .before .before .run .ensures .0, c .enum-told .given .1), (rw (← c .before .before .before .before .run .ensures .0, c .enum-told .given .1), (rw (← c .before .before .before .before .run .ensures .0, c .enum-told .given .1), c .before .before .before .before .run .ensures .1 .0)))))
+    (λ c. (rw (← c .before .before .before .before .run .ensures .0, c .enum-told .given .1), (rw (← c .before .before .before .before .run .ensures .0, c .enum-told .given .1), (rw (← c .before .before .before .before .run .ensures .0, c .enum-told .given .1), (rw (← c .before .before .before .before .run .ensures .0, c .enum-told .given .1), c .before .before .before .before .run .ensures .1 .0))))))
