@@ -16,6 +16,7 @@ use Rattle.chip_ports.specs.Ports.{ports, target}
 use Rattle.chip.specs.Names.{locked, received, portsOpen, picks3Dx, eightBit}
 use Rattle.chip.specs.Palette.{coloured, loaded, shown}
 use Rattle.chip.specs.Access.{portWritten, portRead}
+use Rattle.chip.specs.Differ.{sameColour}
 use Rattle.chip.specs.Reset.{resetByte, reset}
 use Rattle.blit_raster.specs.Raster.{number, raster, usesSource, usesPattern}
 use Rattle.blit_frame.specs.Frame.{inRange, inMemory}
@@ -31,6 +32,7 @@ use Rattle.script_commands.specs.Expansion.{ways, expanded}
 use Rattle.cases.specs.Cases.{numbers, rowsHold, allHold}
 use Rattle.cases.specs.Starred.{starred}
 use Rattle.cases.specs.Witnesses.{witnesses}
+use Rattle.cases.proofs.Quickly.{hold-quickly}
 
 pub starred-hold : allHold starred ≡ true
 unfolding starred CR SR GR XR MR AR indexKept groupAt rowOf lockedBy leftOpen writableNow written ports target locked received portsOpen picks3Dx eightBit coloured loaded shown portWritten portRead resetByte reset number raster usesSource usesPattern byteDone inTurn lineDone linesDone inRange inMemory transferred firstNot every tab names legal fits idle judged shaped stepOf bytesOf wordSum stepsChecked front blocksTo fileWritten bytesOfAll ways expanded
@@ -41,5 +43,5 @@ unfolding starred
 starred-numbers = refl
 
 pub witnesses-hold : rowsHold witnesses ≡ true
-unfolding witnesses CR SR GR XR MR AR indexKept groupAt rowOf lockedBy leftOpen writableNow written ports target locked received portsOpen picks3Dx eightBit coloured loaded shown portWritten portRead resetByte reset number raster usesSource usesPattern byteDone inTurn lineDone linesDone inRange inMemory transferred firstNot every tab names legal fits idle judged shaped stepOf bytesOf wordSum stepsChecked front blocksTo fileWritten bytesOfAll ways expanded
-witnesses-hold = refl
+unfolding witnesses CR SR GR XR MR AR indexKept groupAt rowOf lockedBy leftOpen writableNow written ports target locked received portsOpen picks3Dx eightBit coloured loaded shown portWritten portRead resetByte reset number raster usesSource usesPattern byteDone inTurn lineDone linesDone inRange inMemory transferred firstNot every tab names legal fits idle judged shaped stepOf bytesOf wordSum stepsChecked front blocksTo fileWritten bytesOfAll ways expanded sameColour
+witnesses-hold = hold-quickly witnesses refl

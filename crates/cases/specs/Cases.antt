@@ -1,7 +1,7 @@
 -- What a case of a table of set-ups can say, and when it holds, over the definitions that the contracts cite. The tables are
 -- Starred, document 01's, and in crate cases_requests those of document 02's requests.
 use Prim.Native.Nat.{ℕ, _-_}
-use mathlib.Core.Bool.{Bool, true, false, _&&_}
+use mathlib.Core.Bool.{Bool, true, false, not, _&&_}
 use mathlib.Core.List.{List, [], _∷_, _++_}
 use lib.Dec.{eqb}
 use lib.ListN.{length, take, replicate}
@@ -9,7 +9,8 @@ use Rattle.chip_registers.specs.declared.Group.{Group}
 use Rattle.chip.specs.State.{Chip, named}
 use Rattle.chip.specs.Names.{register}
 use Rattle.chip.specs.Palette.{entry, shown}
-use Rattle.chip.specs.Access.{answerNumber, portWritten, portRead}
+use Rattle.chip.specs.Access.{Wrote, answerNumber, portWritten, portRead}
+use Rattle.chip.specs.Differ.{differ}
 use Rattle.chip.specs.Reset.{reset}
 use Rattle.chip.specs.declared.Rgb.{Rgb}
 use Rattle.blit_raster.specs.Raster.{raster}
@@ -28,7 +29,11 @@ use Rattle.script_commands.specs.Expansion.{expanded}
 pub data Event : Type 0 where
   -- a byte written to a port, with number 0
   gets : ℕ → ℕ → Event
-  -- a byte written to a port, with another number
+  -- the same, with the two bytes that the write hands back, the register's before and after it: a write that changes a register
+  -- or a colour, and one that changes none
+  alters : ℕ → ℕ → ℕ → ℕ → Event
+  leaves : ℕ → ℕ → ℕ → ℕ → Event
+  -- a byte written to a port, with another number: it hands back FFh twice
   refuses : ℕ → ℕ → ℕ → Event
   -- a port read, with number 0
   reads : ℕ → ℕ → Event
@@ -63,14 +68,28 @@ same (x ∷ xs) (y ∷ ys) = eqb x y && same xs ys
 abbrev pub components : Rgb → List ℕ
 components c = c .red ∷ c .green ∷ c .blue ∷ []
 
-abbrev pub happens : Chip → List Event → Bool
-happens c [] = true
-happens c (gets p v ∷ es) = eqb (answerNumber (portWritten c p v .answer)) 0 && happens (portWritten c p v .chip) es
-happens c (refuses p v number ∷ es) = eqb (answerNumber (portWritten c p v .answer)) number && happens (portWritten c p v .chip) es
-happens c (reads p v ∷ es) = eqb (answerNumber (portRead c p .answer)) 0 && (eqb (portRead c p .value) v && happens (portRead c p .chip) es)
-happens c (is g i v ∷ es) = eqb (register g (named c) i) v && happens c es
-happens c (colour e r g b ∷ es) = same (components (entry (named c) e)) (r ∷ g ∷ b ∷ []) && happens c es
-happens c (shows p r g b ∷ es) = same (components (shown (named c) p)) (r ∷ g ∷ b ∷ []) && happens c es
+-- a write has this number, and hands back these two bytes
+abbrev pub hands : Wrote → ℕ → ℕ → ℕ → Bool
+hands w number before after = eqb (answerNumber (w .answer)) number && (eqb (w .before) before && eqb (w .after) after)
+
+-- whether a port write changes a register or a colour
+abbrev pub changing : Chip → ℕ → ℕ → Bool
+changing c p v = differ c (portWritten c p v .chip)
+
+-- the test of that is a parameter: a row holds by `changing`, and proofs/Quickly has one that is the same and computes at once
+abbrev pub happensBy : (Chip → ℕ → ℕ → Bool) → Chip → List Event → Bool
+happensBy t c [] = true
+happensBy t c (gets p v ∷ es) = eqb (answerNumber (portWritten c p v .answer)) 0 && happensBy t (portWritten c p v .chip) es
+happensBy t c (alters p v before after ∷ es) =
+    hands (portWritten c p v) 0 before after && (t c p v && happensBy t (portWritten c p v .chip) es)
+happensBy t c (leaves p v before after ∷ es) =
+    hands (portWritten c p v) 0 before after && (not (t c p v) && happensBy t (portWritten c p v .chip) es)
+happensBy t c (refuses p v number ∷ es) = hands (portWritten c p v) number 0xFF 0xFF && happensBy t (portWritten c p v .chip) es
+happensBy t c (reads p v ∷ es) =
+    eqb (answerNumber (portRead c p .answer)) 0 && (eqb (portRead c p .value) v && happensBy t (portRead c p .chip) es)
+happensBy t c (is g i v ∷ es) = eqb (register g (named c) i) v && happensBy t c es
+happensBy t c (colour e r g b ∷ es) = same (components (entry (named c) e)) (r ∷ g ∷ b ∷ []) && happensBy t c es
+happensBy t c (shows p r g b ∷ es) = same (components (shown (named c) p)) (r ∷ g ∷ b ∷ []) && happensBy t c es
 
 -- a memory of 4,096 bytes that begins so
 abbrev pub memory : List ℕ → List ℕ
@@ -84,13 +103,20 @@ listOf (s ∷ ss) = stepBytes s ++ listOf ss
 abbrev pub written-as : List Step → ℕ → ℕ → Bool
 written-as ss number value = eqb (ofWritten (written (listOf ss) 512) .number) number && eqb (ofWritten (written (listOf ss) 512) .value) value
 
-abbrev pub holds : Row → Bool
-holds (chip first second es) = happens (reset first second) es
-holds (raster-byte p s d code byte) = eqb (raster code p s d) byte
-holds (moves front t after) = same (take (length after) (transferred (memory front) t)) after
-holds (commands s bytes) = same (bytesOfAll (expanded s)) bytes
-holds (check s w) = written-as (s ∷ []) 0 1 && (eqb (length (fileOf (stepBytes s))) 512 && eqb (word (fileOf (stepBytes s)) 510) w)
-holds (answers ss number value) = written-as ss number value
+abbrev pub holdsBy : (Chip → ℕ → ℕ → Bool) → Row → Bool
+holdsBy t (chip first second es) = happensBy t (reset first second) es
+holdsBy t (raster-byte p s d code byte) = eqb (raster code p s d) byte
+holdsBy t (moves front x after) = same (take (length after) (transferred (memory front) x)) after
+holdsBy t (commands s bytes) = same (bytesOfAll (expanded s)) bytes
+holdsBy t (check s w) = written-as (s ∷ []) 0 1 && (eqb (length (fileOf (stepBytes s))) 512 && eqb (word (fileOf (stepBytes s)) 510) w)
+holdsBy t (answers ss number value) = written-as ss number value
+
+abbrev pub rowsHoldBy : (Chip → ℕ → ℕ → Bool) → List Row → Bool
+rowsHoldBy t [] = true
+rowsHoldBy t (r ∷ rs) = holdsBy t r && rowsHoldBy t rs
+
+abbrev pub rowsHold : List Row → Bool
+rowsHold rs = rowsHoldBy changing rs
 
 -- ---- a table: each case with its number in the document
 
@@ -105,10 +131,6 @@ numbers (c ∷ cs) = c .number ∷ numbers cs
 abbrev pub rows : List Case → List Row
 rows [] = []
 rows (c ∷ cs) = c .row ∷ rows cs
-
-abbrev pub rowsHold : List Row → Bool
-rowsHold [] = true
-rowsHold (r ∷ rs) = holds r && rowsHold rs
 
 abbrev pub allHold : List Case → Bool
 allHold cs = rowsHold (rows cs)

@@ -5,7 +5,7 @@ use mathlib.Core.Bool.{false}
 use mathlib.Core.List.{List, [], _∷_}
 use Rattle.chip_registers.specs.declared.Group.the-variants.{Xr, Ar}
 use Rattle.script_steps.specs.declared.Step.the-variants.{Set, Field, Colour}
-use Rattle.cases.specs.Cases.{Row, gets, reads, is, shows, chip, raster-byte, moves, commands, answers}
+use Rattle.cases.specs.Cases.{Row, gets, alters, leaves, reads, is, shows, chip, raster-byte, moves, commands, answers}
 use Rattle.cases.specs.Starred.{oneLine}
 
 unfoldable pub witnesses : List Row
@@ -36,6 +36,12 @@ witnesses =
     -- chip/PALMASK_ORed: the colour of entry FFh
     ∷ chip 0xFF 0xFF
     (gets 0x3C6 0xF0 ∷ gets 0x3C8 0xFF ∷ gets 0x3C9 0x3F ∷ gets 0x3C9 0x3F ∷ gets 0x3C9 0x3F ∷ shows 0x0F 0 0 0 ∷ [])
+    -- chip/stored_colour_not_counted: nothing changes
+    ∷ chip 0xFF 0xFF (gets 0x3C8 0x05 ∷ leaves 0x3C9 0x3F 0xFF 0xFF ∷ leaves 0x3C9 0x00 0xFF 0xFF ∷ alters 0x3C9 0x15 0xFF 0xFF ∷ [])
+    -- chip/picture_counted: a change
+    ∷ chip 0xFF 0xFF (leaves 0x3C0 0x20 0xFF 0xFF ∷ [])
+    -- chip/before_taken_after_the_write: 43h, 43h
+    ∷ chip 0xFF 0xFF (gets 0x3D6 0x60 ∷ alters 0x3D7 0x43 0x00 0x43 ∷ [])
     -- lent_chip/turn_not_returned: 10h
     ∷ chip 0xFF 0xFF (gets 0x3C2 0x01 ∷ gets 0x3C0 0x10 ∷ reads 0x3DA 0x00 ∷ gets 0x3C0 0x11 ∷ reads 0x3C0 0x11 ∷ [])
     -- script_steps/AR15_named and script_steps/eleven_before_seven: 11; script_steps/MSR_with_index: a block;

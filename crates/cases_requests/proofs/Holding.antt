@@ -14,6 +14,7 @@ use Rattle.chip_ports.specs.Ports.{ports, target}
 use Rattle.chip.specs.Names.{locked, received, portsOpen, picks3Dx, eightBit}
 use Rattle.chip.specs.Palette.{coloured, loaded, shown}
 use Rattle.chip.specs.Access.{portWritten, portRead}
+use Rattle.chip.specs.Differ.{sameColour}
 use Rattle.chip.specs.Reset.{resetByte, reset}
 use Rattle.blit_raster.specs.Raster.{number, raster, usesSource, usesPattern}
 use Rattle.blit_frame.specs.Frame.{inRange, inMemory}
@@ -26,9 +27,10 @@ use Rattle.script.specs.File.{stepsChecked}
 use Rattle.script_writer.specs.Write.{front, blocksTo, written as fileWritten}
 use Rattle.script_commands.specs.Command.{bytesOfAll}
 use Rattle.script_commands.specs.Expansion.{ways, expanded}
-use Rattle.cases.specs.Cases.{allHold}
+use Rattle.cases.specs.Cases.{rows, allHold}
+use Rattle.cases.proofs.Quickly.{hold-quickly}
 use Rattle.cases_requests.specs.Asked.{asked}
 
 pub requests-hold : allHold asked ≡ true
-unfolding asked CR SR GR XR MR AR indexKept groupAt rowOf lockedBy leftOpen writableNow written ports target locked received portsOpen picks3Dx eightBit coloured loaded shown portWritten portRead resetByte reset number raster usesSource usesPattern byteDone inTurn lineDone linesDone inRange inMemory transferred firstNot every tab names legal fits idle judged shaped stepOf bytesOf wordSum stepsChecked front blocksTo fileWritten bytesOfAll ways expanded
-requests-hold = refl
+unfolding asked CR SR GR XR MR AR indexKept groupAt rowOf lockedBy leftOpen writableNow written ports target locked received portsOpen picks3Dx eightBit coloured loaded shown portWritten portRead resetByte reset number raster usesSource usesPattern byteDone inTurn lineDone linesDone inRange inMemory transferred firstNot every tab names legal fits idle judged shaped stepOf bytesOf wordSum stepsChecked front blocksTo fileWritten bytesOfAll ways expanded sameColour
+requests-hold = hold-quickly (rows asked) refl

@@ -2,12 +2,16 @@
 // `P1.2 ok`, or the bytes that came out instead. The cases marked *, and those of requests, are also rows of the
 // tables of crates `cases` and `cases_requests`, which are proved. A case is sixteen bytes:
 // what came out, and zeros after it.
+ghost use Prim.Native.Nat.{_≤_};
 use blit::block_transfer;
 use blit_frame::Area;
 use blit_frame::Transfer;
 use blit_raster::raster_byte;
 use cases::after_read;
 use cases::after_write as after;
+use cases::alters;
+use cases::byte_after;
+use cases::byte_before;
 use cases::byte_read as seen;
 use cases::read_number;
 use cases::write_number as refusal;
@@ -298,41 +302,42 @@ fn case_p1_5() -> [u8; 16] {
     front(out)
 }
 
-// What the writer answers for steps, with room for a block: the number and the value.
-fn answer(steps: &[u8]) -> [u8; 2] {
-    [written_number(steps), (written_value(steps) % 256) as u8]
+// The case with what the writer answers for steps, with room for a block, from a place on: the number and the value.
+fn answered(got: [u8; 16], at: usize, steps: &[u8]) -> [u8; 16]
+    requires { ⌜ at ≤ 14 ⌝ }
+{
+    let mut out = got;
+    out[at] = written_number(steps);
+    out[at + 1] = (written_value(steps) % 256) as u8;
+    out
 }
 
 // P2.1. SET XR60 43h, SET XR70 43h; SET SR05 00h.
 fn case_p2_1() -> [u8; 16] {
-    let a = answer(&[1, 3, 0x60, 0x43, 0, 0, 1, 3, 0x70, 0x43, 0, 0]);
-    let b = answer(&[1, 1, 0x05, 0x00, 0, 0]);
-    let mut out = [0u8; 16];
-    out[0] = a[0];
-    out[1] = a[1];
-    out[2] = b[0];
-    out[3] = b[1];
-    out
+    let out = answered(
+        [0u8; 16],
+        0,
+        &[1, 3, 0x60, 0x43, 0, 0, 1, 3, 0x70, 0x43, 0, 0],
+    );
+    answered(out, 2, &[1, 1, 0x05, 0x00, 0, 0])
 }
 
 // P2.2. SET AR15 00h, SET XR70 43h; FIELD XR70, mask 01h, value 03h; SET XR70 43h, SET AR15 00h.
 fn case_p2_2() -> [u8; 16] {
-    let a = answer(&[1, 8, 0x15, 0x00, 0, 0, 1, 3, 0x70, 0x43, 0, 0]);
-    let b = answer(&[2, 3, 0x70, 0x03, 0x01, 0]);
-    let c = answer(&[1, 3, 0x70, 0x43, 0, 0, 1, 8, 0x15, 0x00, 0, 0]);
-    let mut out = [0u8; 16];
-    out[0] = a[0];
-    out[1] = a[1];
-    out[2] = b[0];
-    out[3] = b[1];
-    out[4] = c[0];
-    out[5] = c[1];
-    out
+    let out = answered(
+        [0u8; 16],
+        0,
+        &[1, 8, 0x15, 0x00, 0, 0, 1, 3, 0x70, 0x43, 0, 0],
+    );
+    let out = answered(out, 2, &[2, 3, 0x70, 0x03, 0x01, 0]);
+    answered(out, 4, &[1, 3, 0x70, 0x43, 0, 0, 1, 8, 0x15, 0x00, 0, 0])
 }
 
 // P2.3. FIELD XR60, mask 00h; FIELD XR67, mask 01h, value 01h; SET CR00 FFh; SET AR00 3Fh; a COLOUR.
 fn case_p2_3() -> [u8; 16] {
-    let a = answer(
+    answered(
+        [0u8; 16],
+        0,
         &[
             2,
             3,
@@ -365,11 +370,7 @@ fn case_p2_3() -> [u8; 16] {
             0x15,
             0,
         ],
-    );
-    let mut out = [0u8; 16];
-    out[0] = a[0];
-    out[1] = a[1];
-    out
+    )
 }
 
 // P2.4. FFh written to XR70 and to SR05 through the ports: the numbers, and what is read.
@@ -414,23 +415,126 @@ fn case_p5_2() -> [u8; 16] {
 
 // P5.3. SET SR0A 0Fh; SET SR05 00h, SET SR0A 0Fh; FIELD GR10, mask 00h; SET SR07 FFh, SET GR08 FFh.
 fn case_p5_3() -> [u8; 16] {
-    let a = answer(&[1, 1, 0x0A, 0x0F, 0, 0]);
-    let b = answer(&[1, 1, 0x05, 0x00, 0, 0, 1, 1, 0x0A, 0x0F, 0, 0]);
-    let c = answer(&[2, 2, 0x10, 0x00, 0x00, 0]);
-    let d = answer(&[1, 1, 0x07, 0xFF, 0, 0, 1, 2, 0x08, 0xFF, 0, 0]);
-    let mut out = [0u8; 16];
-    out[0] = a[0];
-    out[1] = a[1];
-    out[2] = b[0];
-    out[3] = b[1];
-    out[4] = c[0];
-    out[5] = c[1];
-    out[6] = d[0];
-    out[7] = d[1];
+    let out = answered([0u8; 16], 0, &[1, 1, 0x0A, 0x0F, 0, 0]);
+    let out = answered(out, 2, &[1, 1, 0x05, 0x00, 0, 0, 1, 1, 0x0A, 0x0F, 0, 0]);
+    let out = answered(out, 4, &[2, 2, 0x10, 0x00, 0x00, 0]);
+    answered(out, 6, &[1, 1, 0x07, 0xFF, 0, 0, 1, 2, 0x08, 0xFF, 0, 0])
+}
+
+// The case with what a write hands back, from a place on: the register's byte before it and after it, and 1 if it
+// changes a register or a colour.
+fn told(got: [u8; 16], at: usize, c: Chip, port: u16, v: u8) -> [u8; 16]
+    requires { ⌜ at ≤ 13 ⌝ }
+{
+    let mut out = got;
+    out[at] = byte_before(c, port, v);
+    out[at + 1] = byte_after(c, port, v);
+    if alters(c, port, v) {
+        out[at + 2] = 1;
+    }
     out
 }
 
-fn main() {
+// P6.1. 3D6h gets 60h; 3D7h gets 43h, 43h, FFh and 02h.
+fn case_p6_1() -> [u8; 16] {
+    let c = Chip::new(0x02, 0x00);
+    let d = after(c, 0x3D6, 0x60);
+    let e = after(d, 0x3D7, 0x43);
+    let out = told([0u8; 16], 0, c, 0x3D6, 0x60);
+    let out = told(out, 3, d, 0x3D7, 0x43);
+    let out = told(out, 6, e, 0x3D7, 0x43);
+    let out = told(out, 9, e, 0x3D7, 0xFF);
+    told(out, 12, e, 0x3D7, 0x02)
+}
+
+// P6.2. FFh to XR07 and SR05, which are unlisted, and to XR04, which has no writable bit.
+fn case_p6_2() -> [u8; 16] {
+    let c = Chip::new(0x02, 0x00);
+    let out = told([0u8; 16], 0, after(c, 0x3D6, 0x07), 0x3D7, 0xFF);
+    let out = told(out, 3, after(c, 0x3C4, 0x05), 0x3C5, 0xFF);
+    told(out, 6, after(c, 0x3D6, 0x04), 0x3D7, 0xFF)
+}
+
+// P6.3. CR00 = 5Fh, CR11 = 80h: FFh to CR00, FFh and then 0Fh to CR07, FFh to CR0C.
+fn case_p6_3() -> [u8; 16] {
+    let a = after(after(Chip::new(0x02, 0x00), 0x3B4, 0x00), 0x3B5, 0x5F);
+    let b = after(a, 0x3B4, 0x11);
+    let c = after(b, 0x3B5, 0x80);
+    let d = after(c, 0x3B4, 0x07);
+    let out = told([0u8; 16], 0, b, 0x3B5, 0x80);
+    let out = told(out, 3, after(c, 0x3B4, 0x00), 0x3B5, 0xFF);
+    let out = told(out, 6, d, 0x3B5, 0xFF);
+    let out = told(out, 9, after(d, 0x3B5, 0xFF), 0x3B5, 0x0F);
+    told(out, 12, after(c, 0x3B4, 0x0C), 0x3B5, 0xFF)
+}
+
+// P6.4. MSR bit 0 = 0, the CR index 0Ch: 3D4h gets 0Dh, 3D5h and 3B5h get 55h. With MSR bit 0 = 1: 3B5h and 3D5h
+// get AAh.
+fn case_p6_4() -> [u8; 16] {
+    let c = after(Chip::new(0x02, 0x00), 0x3B4, 0x0C);
+    let d = after(after(c, 0x3B5, 0x55), 0x3C2, 0x01);
+    let out = told([0u8; 16], 0, c, 0x3D4, 0x0D);
+    let out = told(out, 3, after(c, 0x3D4, 0x0D), 0x3D5, 0x55);
+    let out = told(out, 6, c, 0x3B5, 0x55);
+    let out = told(out, 9, d, 0x3B5, 0xAA);
+    told(out, 12, d, 0x3D5, 0xAA)
+}
+
+// P6.5. 3C0h gets 00h and 15h, 20h and 3Fh, 30h and 41h: all but the index 30h.
+fn case_p6_5() -> [u8; 16] {
+    let a = Chip::new(0x02, 0x00);
+    let b = after(a, 0x3C0, 0x00);
+    let c = after(b, 0x3C0, 0x15);
+    let d = after(c, 0x3C0, 0x20);
+    let e = after(after(d, 0x3C0, 0x3F), 0x3C0, 0x30);
+    let out = told([0u8; 16], 0, a, 0x3C0, 0x00);
+    let out = told(out, 3, b, 0x3C0, 0x15);
+    let out = told(out, 6, c, 0x3C0, 0x20);
+    let out = told(out, 9, d, 0x3C0, 0x3F);
+    told(out, 12, e, 0x3C0, 0x41)
+}
+
+// P6.6. 3C2h gets FFh twice; 3C6h gets 0Fh twice, and FFh.
+fn case_p6_6() -> [u8; 16] {
+    let a = Chip::new(0x02, 0x00);
+    let b = after(a, 0x3C2, 0xFF);
+    let c = after(b, 0x3C6, 0x0F);
+    let out = told([0u8; 16], 0, a, 0x3C2, 0xFF);
+    let out = told(out, 3, b, 0x3C2, 0xFF);
+    let out = told(out, 6, b, 0x3C6, 0x0F);
+    let out = told(out, 9, c, 0x3C6, 0x0F);
+    told(out, 12, c, 0x3C6, 0xFF)
+}
+
+// P6.7. 3C8h gets 5, 3C9h 63, 0, 21; 3C7h gets 5, 3C9h 127, 64, 85: both indexes, the green of the first, and each blue.
+fn case_p6_7() -> [u8; 16] {
+    let a = Chip::new(0x02, 0x00);
+    let b = after(after(a, 0x3C8, 5), 0x3C9, 63);
+    let c = after(b, 0x3C9, 0);
+    let d = after(c, 0x3C9, 21);
+    let e = after(after(after(d, 0x3C7, 5), 0x3C9, 127), 0x3C9, 64);
+    let out = told([0u8; 16], 0, a, 0x3C8, 5);
+    let out = told(out, 3, b, 0x3C9, 0);
+    let out = told(out, 6, c, 0x3C9, 21);
+    let out = told(out, 9, d, 0x3C7, 5);
+    told(out, 12, e, 0x3C9, 85)
+}
+
+// P6.8. Writes to 3D8h and 3C1h, and with first pin byte 00h to 3D7h: each number behind the bytes of all.
+fn case_p6_8() -> [u8; 16] {
+    let c = Chip::new(0x02, 0x00);
+    let d = Chip::new(0x00, 0x00);
+    let out = told([0u8; 16], 0, c, 0x3D8, 0x43);
+    let out = told(out, 3, c, 0x3C1, 0x01);
+    let mut out = told(out, 6, d, 0x3D7, 0x43);
+    out[9] = refusal(c, 0x3D8, 0x43);
+    out[10] = refusal(c, 0x3C1, 0x01);
+    out[11] = refusal(d, 0x3D7, 0x43);
+    out
+}
+
+// Document 01's set-ups.
+fn set_ups() {
     report(
         1,
         case_1(),
@@ -513,6 +617,10 @@ fn main() {
         case_13(),
         [0xB8, 0x9F, 0, 0, 0, 0, 0, 0, 0, 0, 0, 0, 0, 0, 0, 0],
     );
+}
+
+// The cases of document 02's P1.
+fn request_1() {
     report_request(
         1,
         1,
@@ -577,6 +685,10 @@ fn main() {
             0x00,
         ],
     );
+}
+
+// The cases of document 02's P2.
+fn request_2() {
     report_request(
         2,
         1,
@@ -601,6 +713,10 @@ fn main() {
         case_p2_4(),
         [0, 0x03, 0, 0x00, 0, 0, 0, 0, 0, 0, 0, 0, 0, 0, 0, 0],
     );
+}
+
+// The cases of document 02's P5.
+fn request_5() {
     report_request(
         5,
         1,
@@ -636,4 +752,200 @@ fn main() {
         case_p5_3(),
         [7, 0, 11, 0, 7, 0, 0, 1, 0, 0, 0, 0, 0, 0, 0, 0],
     );
+}
+
+// The cases of document 02's P6.
+fn request_6() {
+    report_request(
+        6,
+        1,
+        case_p6_1(),
+        [
+            0xFF,
+            0xFF,
+            0,
+            0x00,
+            0x43,
+            1,
+            0x43,
+            0x43,
+            0,
+            0x43,
+            0x43,
+            0,
+            0x43,
+            0x02,
+            1,
+            0,
+        ],
+    );
+    report_request(
+        6,
+        2,
+        case_p6_2(),
+        [
+            0x00,
+            0x00,
+            0,
+            0x00,
+            0x00,
+            0,
+            0x62,
+            0x62,
+            0,
+            0,
+            0,
+            0,
+            0,
+            0,
+            0,
+            0,
+        ],
+    );
+    report_request(
+        6,
+        3,
+        case_p6_3(),
+        [
+            0x00,
+            0x80,
+            1,
+            0x5F,
+            0x5F,
+            0,
+            0x00,
+            0x10,
+            1,
+            0x10,
+            0x00,
+            1,
+            0x00,
+            0xFF,
+            1,
+            0,
+        ],
+    );
+    report_request(
+        6,
+        4,
+        case_p6_4(),
+        [
+            0xFF,
+            0xFF,
+            0,
+            0xFF,
+            0xFF,
+            0,
+            0x00,
+            0x55,
+            1,
+            0xFF,
+            0xFF,
+            0,
+            0x55,
+            0xAA,
+            1,
+            0,
+        ],
+    );
+    report_request(
+        6,
+        5,
+        case_p6_5(),
+        [
+            0xFF,
+            0xFF,
+            0,
+            0x00,
+            0x15,
+            1,
+            0xFF,
+            0xFF,
+            0,
+            0x15,
+            0x15,
+            0,
+            0x00,
+            0x41,
+            1,
+            0,
+        ],
+    );
+    report_request(
+        6,
+        6,
+        case_p6_6(),
+        [
+            0x00,
+            0xEF,
+            1,
+            0xEF,
+            0xEF,
+            0,
+            0x00,
+            0x0F,
+            1,
+            0x0F,
+            0x0F,
+            0,
+            0x0F,
+            0xFF,
+            1,
+            0,
+        ],
+    );
+    report_request(
+        6,
+        7,
+        case_p6_7(),
+        [
+            0xFF,
+            0xFF,
+            0,
+            0xFF,
+            0xFF,
+            0,
+            0xFF,
+            0xFF,
+            1,
+            0xFF,
+            0xFF,
+            0,
+            0xFF,
+            0xFF,
+            0,
+            0,
+        ],
+    );
+    report_request(
+        6,
+        8,
+        case_p6_8(),
+        [
+            0xFF,
+            0xFF,
+            0,
+            0xFF,
+            0xFF,
+            0,
+            0xFF,
+            0xFF,
+            0,
+            1,
+            1,
+            2,
+            0,
+            0,
+            0,
+            0,
+        ],
+    );
+}
+
+fn main() {
+    set_ups();
+    request_1();
+    request_2();
+    request_5();
+    request_6();
 }
