@@ -4,7 +4,8 @@ use mathlib.Core.List.{[]}
 use Rattle.chip.specs.Palette.{rgb}
 use Rattle.text.specs.Ascii.{ascii}
 use Rattle.text_steps.specs.Written.{letter, nameText}
-use Rattle.text_changes.specs.Changes.{registerLine, registerChange, colourLine, sameColour, colourChange}
+use Rattle.chip.specs.Differ.{sameColour}
+use Rattle.text_changes.specs.Changes.{registerLine, registerChange, colourLine, colourChange}
 
 pub XR60-line : registerChange 3 0x60 0x00 0x43 ≡ ascii "XR60 00 43\n"
 unfolding registerChange registerLine nameText letter

@@ -13,7 +13,8 @@ use Rattle.text.specs.Ascii.{ascii}
 use Rattle.text_steps.specs.Written.{nameText, byteText}
 use Rattle.text_steps.proofs.Lengths.{name-most}
 use Rattle.text_registers.proofs.Lengths.{joined-most}
-use Rattle.text_changes.specs.Changes.{registerLine, registerChange, indexes, registerAt, registersTo, groupsTo, colourLine, sameColour, colourChange, coloursTo, changed}
+use Rattle.chip.specs.Differ.{sameColour}
+use Rattle.text_changes.specs.Changes.{registerLine, registerChange, indexes, registerAt, registersTo, groupsTo, colourLine, colourChange, coloursTo, changed}
 
 pub register-most : (g i old new : ℕ) → length (registerChange g i old new) ≤ 14
 unfolding registerChange registerLine

@@ -3,21 +3,23 @@
 use Prim.Native.Nat.{ℕ, zero, suc, _<_}
 use native.Mathlib.Omega.{arith}
 use native.Mathlib.Decide.{ℕ-discrete}
-use mathlib.Core.Bool.{Bool, true, false, cond, _&&_}
-use mathlib.Core.Path.{_≡_, refl, ap, _∙_}
+use mathlib.Core.Bool.{Bool, true, false, cond}
+use mathlib.Core.Path.{_≡_, refl, sym, ap, _∙_}
 use mathlib.Core.List.{List, [], _∷_, _++_}
 use lib.Dec.{eqb}
 use borrow.Author.Tests.{eqb-true, eq-eqb}
 use Rattle.chip_registers.specs.Groups.{groupAt}
 use Rattle.chip.specs.State.{Named}
 use Rattle.chip.specs.Names.{register}
-use Rattle.chip.specs.Palette.{rgb, entry}
+use Rattle.chip.specs.Palette.{entry}
+use Rattle.chip.specs.Differ.{sameColour}
 use Rattle.chip.specs.declared.Rgb.{Rgb}
+use Rattle.chip.proofs.DifferLaws.{colour-self, colour-same}
 use Rattle.text.specs.Ascii.{ascii}
 use Rattle.text_steps.specs.Written.{nameText, byteText}
 use Rattle.text_registers.specs.Line.{joined}
 use Rattle.text_registers.proofs.Growing.{joined-none}
-use Rattle.text_changes.specs.Changes.{registerLine, registerChange, indexes, registerAt, registersTo, groupsTo, colourLine, sameColour, colourChange, coloursTo, changed}
+use Rattle.text_changes.specs.Changes.{registerLine, registerChange, indexes, registerAt, registersTo, groupsTo, colourLine, colourChange, coloursTo, changed}
 
 -- ---- nothing, piece by piece
 empty-left : (a b : List ℕ) → a ++ b ≡ [] → a ≡ []
@@ -47,23 +49,12 @@ register-silent g i old new e = go (eqb old new) refl e
     go true h e = eqb-true _ _ h
     go false h e = let z = empty-right (nameText g i) (byteText old ++ byteText new ++ ascii "\n") e in cc
 
-both : (a b : Bool) → (a && b) ≡ true → (a ≡ true) × (b ≡ true)
-both true b e = (refl, e)
-both false b e = (e, cc)
-
-parts-same : (a b : Rgb) → a .red ≡ b .red → a .green ≡ b .green → a .blue ≡ b .blue → a ≡ b
-parts-same a b r g u =
-    ap (λ (x : ℕ). rgb x (a .green) (a .blue)) r ∙ ap (λ (x : ℕ). rgb (b .red) x (a .blue)) g ∙ ap (λ (x : ℕ). rgb (b .red) (b .green) x) u
-
 colour-silent : (e : ℕ) (old new : Rgb) → colourChange e old new ≡ [] → old ≡ new
-unfolding colourChange colourLine sameColour
+unfolding colourChange colourLine
 colour-silent e old new w = go (sameColour old new) refl w
   where
     go : (b : Bool) → sameColour old new ≡ b → cond b [] (colourLine e old new) ≡ [] → old ≡ new
-    go true h w =
-        let (rg, b) = both (eqb (old .red) (new .red) && eqb (old .green) (new .green)) (eqb (old .blue) (new .blue)) h in
-        let (r, g) = both (eqb (old .red) (new .red)) (eqb (old .green) (new .green)) rg in
-        parts-same old new (eqb-true _ _ r) (eqb-true _ _ g) (eqb-true _ _ b)
+    go true h w = colour-same old new h
     go false h w = cc
 
 module _ (before after : Named) (silent : changed before after ≡ []) where
@@ -87,13 +78,8 @@ unfolding registerChange
 register-kept g i old new e = rw (eq-eqb old new e)
 
 pub colour-kept : (e : ℕ) (old new : Rgb) → old ≡ new → colourChange e old new ≡ []
-unfolding colourChange sameColour
-colour-kept e old new w =
-    rw (
-      eq-eqb (old .red) (new .red) (ap (λ (c : Rgb). c .red) w),
-      eq-eqb (old .green) (new .green) (ap (λ (c : Rgb). c .green) w),
-      eq-eqb (old .blue) (new .blue) (ap (λ (c : Rgb). c .blue) w),
-    )
+unfolding colourChange
+colour-kept e old new w = let same : sameColour old new ≡ true = ap (sameColour old) (sym w) ∙ colour-self old in rw same
 
 module _ (before after : Named) where
   pub group-silent : (g : ℕ) → ((i : ℕ) → i < indexes g → register (groupAt g) before i ≡ register (groupAt g) after i)

@@ -4,13 +4,14 @@
 -- Registers and entries are read by name: no index register and no loading state is looked at. How long the text can be, and
 -- that what it does not tell is the same in both states, are laws: proofs/Lengths and proofs/Telling.
 use Prim.Native.Nat.{ℕ}
-use mathlib.Core.Bool.{Bool, cond, _&&_, _||_}
+use mathlib.Core.Bool.{cond, _||_}
 use mathlib.Core.List.{List, [], _++_}
 use lib.Dec.{eqb}
 use Rattle.chip_registers.specs.Groups.{groupAt}
 use Rattle.chip.specs.State.{Named}
 use Rattle.chip.specs.Names.{register}
 use Rattle.chip.specs.Palette.{entry}
+use Rattle.chip.specs.Differ.{sameColour}
 use Rattle.chip.specs.declared.Rgb.{Rgb}
 use Rattle.text.specs.Ascii.{ascii}
 use Rattle.text.specs.Digits.{byteDigits}
@@ -48,9 +49,6 @@ colourDigits c = ascii " " ++ byteDigits (c .red) ++ byteDigits (c .green) ++ by
 unfoldable pub colourLine : ℕ → Rgb → Rgb → List ℕ
 colourLine e old new =
     ascii "COLOUR" ++ byteText e ++ colourDigits old ++ colourDigits new ++ ascii "\n"
-
-unfoldable pub sameColour : Rgb → Rgb → Bool
-sameColour a b = eqb (a .red) (b .red) && eqb (a .green) (b .green) && eqb (a .blue) (b .blue)
 
 -- nothing where the two are the same
 unfoldable pub colourChange : ℕ → Rgb → Rgb → List ℕ

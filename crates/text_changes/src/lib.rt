@@ -8,9 +8,10 @@ ghost use Rattle.chip.specs.State.{named};
 ghost use Rattle.chip.specs.View.{view};
 ghost use Rattle.lists.specs.Put.{Added};
 ghost use Rattle.text.specs.Adding.{AddedIn};
-ghost use Rattle.text_changes.specs.Changes.{registerLine, registerChange, indexes, registersTo, groupsTo, colourLine, sameColour, colourChange, coloursTo, changed};
+ghost use Rattle.text_changes.specs.Changes.{registerLine, registerChange, indexes, registersTo, groupsTo, colourLine, colourChange, coloursTo, changed};
 use chip::Chip;
 use chip::Rgb;
+use chip::palette::is_same;
 use chip_registers::group_at;
 use text::add;
 use text::digit;
@@ -127,13 +128,6 @@ fn put_entry(out: &mut [u8], at: usize, e: u8, old: Rgb, new: Rgb) -> usize
         b'\n',
     ];
     add(out, at, &text)
-}
-
-// Whether two entries are the same.
-fn is_same(a: Rgb, b: Rgb) -> bool
-    ensures { λ r. ⌜ r ≡ sameColour a b ⌝ }
-{
-    (a.red == b.red) & (a.green == b.green) & (a.blue == b.blue)
 }
 
 // The line of a palette entry, if it differs.

@@ -1,31 +1,24 @@
 -- What the text says by the steps alone: the ports of a chip after a reset with FFh and FFh are open, so every command of
 -- an accepted file is carried out, and what has a name is then what the steps say by name (`answers` of the crate chip_play).
 use Prim.Native.Nat.{ℕ}
-use mathlib.Core.Bool.{true, cond}
-use mathlib.Core.Path.{_≡_, refl, ap, _∙_}
+use mathlib.Core.Bool.{cond}
+use mathlib.Core.Path.{_≡_, ap, _∙_}
 use mathlib.Core.List.{List}
 use lib.Dec.{ltb}
 use lib.ListN.{length}
 use Rattle.lists.specs.Put.{put}
 use Rattle.chip.specs.State.{Named, named}
-use Rattle.chip.specs.Names.{portsOpen}
-use Rattle.lists.specs.Tab.{tab}
-use Rattle.chip.specs.Reset.{resetByte, reset}
 use Rattle.script.specs.File.{stepCount}
 use Rattle.script.specs.declared.Refusal.{Refusal}
 use Rattle.script.specs.declared.Refusal.the-variants.{Room}
 use Rattle.script_commands.specs.Translation.{stepsTo, translated}
 use Rattle.script_commands.specs.declared.Translated.the-variants.{Commands, Refused as NotTranslated}
 use Rattle.chip_play.specs.ByName.{appliedAll}
-use Rattle.chip_play.specs.Played.{played}
+use Rattle.chip_play.specs.Played.{fresh, played}
 use Rattle.chip_play.specs.declared.Outcome.{Outcome}
-use Rattle.chip_play.proofs.Playing.{by-name}
-use Rattle.text_played.specs.Told.{fresh, tale, toldOf, told, leftOf, left}
+use Rattle.chip_play.proofs.Playing.{by-name, fresh-open}
+use Rattle.text_played.specs.Told.{tale, toldOf, told, leftOf, left}
 use Rattle.text_played.specs.declared.Told.the-variants.{Text, Refused}
-
-fresh-open : portsOpen (named fresh) ≡ true
-unfolding portsOpen reset tab resetByte
-fresh-open = refl
 
 module _ (file : List ℕ) (work room : ℕ) where
   -- the state that the steps make of a reset, by name

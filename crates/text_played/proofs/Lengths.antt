@@ -13,10 +13,10 @@ use Rattle.chip.specs.State.{Named, named}
 use Rattle.script.specs.declared.Refusal.the-variants.{Room}
 use Rattle.chip_play.specs.declared.Outcome.{Outcome}
 use Rattle.chip_play.specs.declared.Outcome.the-variants.{NotPlayed, Played}
-use Rattle.chip_play.specs.Played.{played}
+use Rattle.chip_play.specs.Played.{fresh, played}
 use Rattle.text_changes.specs.Changes.{changed}
 use Rattle.text_changes.proofs.Lengths.{changed-most}
-use Rattle.text_played.specs.Told.{fresh, commandsLine, tale, toldOf, told}
+use Rattle.text_played.specs.Told.{commandsLine, tale, toldOf, told}
 use Rattle.text_played.specs.declared.Told.the-variants.{Text, Refused}
 
 pub line-most : (count : ℕ) → length (commandsLine count) ≤ 30
@@ -39,5 +39,5 @@ told-within file work room n is = go (played fresh file work .outcome) is
 
     go : (o : Outcome) → toldOf o (named (played fresh file work .chip)) room ≡ Text n → n ≤ room
     go (NotPlayed why) is = let z : _≡_ {A = ℕ} 0 1 = cc in absurd (omega arith)
-    go (Played count ending) is =
+    go (Played count changing ending) is =
         within (ltb room 38430) (length (tale (named (played fresh file work .chip)) count)) refl (tale-most (named (played fresh file work .chip)) count) is

@@ -12,21 +12,16 @@ use lib.ListN.{length}
 use Rattle.lists.specs.Put.{put}
 use Rattle.lists.specs.Numbers.{Returned, returned}
 use Rattle.text.specs.Digits.{decimal}
-use Rattle.chip.specs.State.{Chip, Named, named}
-use Rattle.chip.specs.Reset.{reset}
+use Rattle.chip.specs.State.{Named, named}
 use Rattle.script.specs.Numbers.{ofRefusal}
 use Rattle.script.specs.declared.Refusal.the-variants.{Room}
-use Rattle.chip_play.specs.Played.{Performance, played}
+use Rattle.chip_play.specs.Played.{Performance, fresh, played}
 use Rattle.chip_play.specs.declared.Outcome.{Outcome}
 use Rattle.chip_play.specs.declared.Outcome.the-variants.{NotPlayed, Played}
 use Rattle.text_changes.specs.Changes.{changed}
 use Rattle.text.specs.Ascii.{ascii}
 use Rattle.text_played.specs.declared.Told.{Told}
 use Rattle.text_played.specs.declared.Told.the-variants.{Text, Refused}
-
--- the chip that a script is played on
-abbrev pub fresh : Chip
-fresh = reset 0xFF 0xFF
 
 -- `commands 2`
 unfoldable pub commandsLine : ℕ → List ℕ
@@ -38,7 +33,7 @@ tale after count = changed (named fresh) after ++ commandsLine count
 
 abbrev pub toldOf : Outcome → Named → ℕ → Told
 toldOf (NotPlayed why) after room = Refused why
-toldOf (Played count ending) after room = cond (ltb room 38430) (Refused Room) (Text (length (tale after count)))
+toldOf (Played count changing ending) after room = cond (ltb room 38430) (Refused Room) (Text (length (tale after count)))
 
 abbrev pub toldBy : Performance → ℕ → Told
 toldBy p room = toldOf (p .outcome) (named (p .chip)) room
@@ -51,7 +46,7 @@ told file work room = toldBy (played fresh file work) room
 -- what the lent output then holds
 abbrev pub leftOf : Outcome → Named → List ℕ → List ℕ
 leftOf (NotPlayed why) after out = out
-leftOf (Played count ending) after out = cond (ltb (length out) 38430) out (put out 0 (tale after count))
+leftOf (Played count changing ending) after out = cond (ltb (length out) 38430) out (put out 0 (tale after count))
 
 abbrev pub leftBy : Performance → List ℕ → List ℕ
 leftBy p out = leftOf (p .outcome) (named (p .chip)) out

@@ -8,8 +8,9 @@ ghost use Rattle.lists.specs.Put.{Added};
 ghost use Rattle.chip.specs.State.{named};
 ghost use Rattle.chip.specs.View.{view};
 ghost use Rattle.script_commands.specs.Translation.{translated, leftBy as writtenBy};
+ghost use Rattle.chip_play.specs.Played.{fresh};
 ghost use Rattle.text_changes.specs.Changes.{changed};
-ghost use Rattle.text_played.specs.Told.{fresh, commandsLine, tale, toldOf, leftOf, told, left};
+ghost use Rattle.text_played.specs.Told.{commandsLine, tale, toldOf, leftOf, told, left};
 use chip::Chip;
 use chip_play::Outcome;
 use chip_play::play;
@@ -58,7 +59,7 @@ fn say(after: Chip, outcome: Outcome, out: &mut [u8]) -> Told
 {
     match outcome {
         Outcome::NotPlayed(why) => Told::Refused(why),
-        Outcome::Played(count, _) => {
+        Outcome::Played(count, _, _) => {
             if out.len() < 38430 {
                 return Told::Refused(Refusal::Room);
             }

@@ -4,8 +4,9 @@ use native.Mathlib.Omega.{arith}
 use Rattle.chip.specs.State.{named}
 use Rattle.chip.specs.View.{view}
 use Rattle.lists.proofs.Put.{added-append}
+use Rattle.chip_play.specs.Played.{fresh}
 use Rattle.text_changes.proofs.Lengths.{changed-most}
-use Rattle.text_played.specs.Told.{fresh, tale}
+use Rattle.text_played.specs.Told.{tale}
 use Rattle.text_played.proofs.Lengths.{line-most}
 use Rattle.text_played.proofs.put_tale.Statement.{statement}
 use Rattle.text_played.proofs.put_tale.Tie as tie
