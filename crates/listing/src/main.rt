@@ -21,11 +21,11 @@ fn commands_buffer() -> [u8; 32256]
     [0; 32256]
 }
 
-// Room for the text of 8,064 commands, 57 bytes and 12 a command.
-fn text_buffer() -> [u8; 96825]
-    ensures { λ r. ⌜ 96825 ≡ length r ⌝ }
+// Room for the text of 8,064 commands, 87 bytes and 12 a command.
+fn text_buffer() -> [u8; 96855]
+    ensures { λ r. ⌜ 96855 ≡ length r ⌝ }
 {
-    [0; 96825]
+    [0; 96855]
 }
 
 // What is wrong with a file, in one write.

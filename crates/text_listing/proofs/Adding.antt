@@ -13,10 +13,16 @@ use Rattle.script_commands.specs.declared.Command.the-variants.{Out, In, Merge,
 use Rattle.script_commands.specs.declared.CommandRead.{CommandRead}
 use Rattle.script_commands.specs.declared.CommandRead.the-variants.{Known, Unknown}
 use Rattle.script_commands.proofs.Codec.{bytes-read}
-use Rattle.text_listing.specs.Line.{line, linesOf}
+use Rattle.text_listing.specs.Line.{words, line, linesOf}
 use Rattle.text_listing.specs.Adding.{lineRead, commandAt, linesTo}
 
 -- ---- lines that are read from bytes
+pub words-most : (c : Command) → length (words c) ≤ 11
+words-most (Out p v) = omega arith
+words-most (In p) = omega arith
+words-most (Merge k s) = omega arith
+words-most (OutAcc p) = omega arith
+
 pub line-most : (c : Command) → length (line c) ≤ 12
 line-most (Out p v) = omega arith
 line-most (In p) = omega arith

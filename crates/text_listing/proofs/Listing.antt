@@ -25,7 +25,7 @@ use Rattle.script_commands.specs.declared.Translated.the-variants.{Commands, Re
 use Rattle.script_commands.proofs.Expanding.{begins-most}
 use Rattle.text.specs.Digits.{decimal}
 use Rattle.text_listing.specs.Line.{linesOf}
-use Rattle.text_listing.specs.Text.{header, textBy, text, wanted, answered, listed, leftBy, ofListed, listedTable}
+use Rattle.text_listing.specs.Text.{countsLine, changingLine, header, textBy, text, wanted, answered, listed, leftBy, ofListed, listedTable}
 use Rattle.lists.specs.Put.{Added}
 use Rattle.text_listing.specs.Adding.{linesTo}
 use Rattle.text_listing.specs.declared.Listed.{Listed}
@@ -34,11 +34,17 @@ use Rattle.text.proofs.DigitLaws.{decimal-most}
 use Rattle.text_listing.proofs.Adding.{lines-read}
 
 -- ---- the longest header
-pub header-most : (n k : ℕ) → length (header n k) ≤ 57
-header-most n k =
+pub counts-most : (n k : ℕ) → length (countsLine n k) ≤ 57
+counts-most n k =
     let a : length (decimal n) ≤ 20 = decimal-most 20 n in
     let b : length (decimal k) ≤ 20 = decimal-most 20 k in
     simp length-append (omega arith)
+
+pub changing-most : (m : ℕ) → length (changingLine m) ≤ 30
+changing-most m = let a : length (decimal m) ≤ 20 = decimal-most 20 m in simp length-append (omega arith)
+
+pub header-most : (n k m : ℕ) → length (header n k m) ≤ 87
+header-most n k m = omega (arith, counts-most n k, changing-most m, length-append (countsLine n k) (changingLine m))
 
 -- ---- a translation's number of commands
 pub record Few (f : List ℕ) (work k : ℕ) : Type 0 where

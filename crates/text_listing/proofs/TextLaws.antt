@@ -1,4 +1,4 @@
--- Laws of the text. It fits where there is room for the longest, and 96,825 bytes are room for any; with 32,256 bytes for the
+-- Laws of the text. It fits where there is room for the longest, and 96,855 bytes are room for any; with 32,256 bytes for the
 -- commands it is a function of the file alone; bytes behind the first 6,145 change nothing, so that a program may stop reading
 -- there; and every port of a script has three digits.
 use Prim.Native.Nat.{ℕ, _-_, _*_, _≤_}
@@ -25,6 +25,7 @@ use Rattle.script_commands.specs.declared.Ways.{Ways}
 use Rattle.script_commands.specs.declared.Ways.the-variants.{Pair, Pairs, Direct, Turns, Nowhere}
 use Rattle.script_commands.specs.declared.Translated.{Translated}
 use Rattle.script_commands.specs.declared.Translated.the-variants.{Commands, Refused}
+use Rattle.chip_play.specs.Played.{fresh, changingOf}
 use Rattle.text.specs.Refused.{refused}
 use Rattle.text.proofs.Adding.{refused-most}
 use Rattle.text_listing.specs.Line.{line, linesOf}
@@ -51,9 +52,9 @@ text-most f work = go (translated f work) refl
     go (Refused r) e = omega (arith, refused-most (ofRefusal r .number))
     go (Commands k) e =
         let w : k ≡ begins f (stepCount f) = translated-few f work k e .count in
-        let h : length (header (stepCount f) k) ≤ 57 = header-most (stepCount f) k in
+        let h : length (header (stepCount f) k (changingOf fresh f)) ≤ 87 = header-most (stepCount f) k (changingOf fresh f) in
         let l : length (linesOf (commandsTo f (stepCount f))) ≤ 12 * begins f (stepCount f) = length-lines (commandsTo f (stepCount f)) in
-        rw (length-append (header (stepCount f) k) (linesOf (commandsTo f (stepCount f)))) (omega arith)
+        rw (length-append (header (stepCount f) k (changingOf fresh f)) (linesOf (commandsTo f (stepCount f)))) (omega arith)
 
 -- how many bytes of text an answer counts
 abbrev pub counted : Listed → ℕ
@@ -79,16 +80,16 @@ listed-within f work room = go (ltb room (wanted (translated f work))) refl
         let enough : wanted (translated f work) ≤ room = ltb-false _ _ eb in
         omega (arith, answered-counted (translated f work) (length (text f work)), text-most f work)
 
--- no file wants more than 96,825 bytes
-pub wanted-most : (f : List ℕ) (work : ℕ) → wanted (translated f work) ≤ 96825
+-- no file wants more than 96,855 bytes
+pub wanted-most : (f : List ℕ) (work : ℕ) → wanted (translated f work) ≤ 96855
 wanted-most f work = go (translated f work) refl
   where
-    go : (t : Translated) → translated f work ≡ t → wanted t ≤ 96825
+    go : (t : Translated) → translated f work ≡ t → wanted t ≤ 96855
     go (Refused r) e = omega arith
     go (Commands k) e = omega (arith, translated-few f work k e .few)
 
 -- .. so that there the text's length is counted
-pub listed-whole : (f : List ℕ) (work room : ℕ) → 96825 ≤ room → listed f work room ≡ answered (translated f work) (length (text f work))
+pub listed-whole : (f : List ℕ) (work room : ℕ) → 96855 ≤ room → listed f work room ≡ answered (translated f work) (length (text f work))
 unfolding listed
 listed-whole f work room h =
     let w : wanted (translated f work) ≤ room = omega (arith, wanted-most f work) in
@@ -96,7 +97,7 @@ listed-whole f work room h =
 
 -- ---- the text of the file alone
 abbrev pub checkedText : Checked → List ℕ → List ℕ
-checkedText (Accepted m) f = header m (begins f m) ++ linesOf (commandsTo f m)
+checkedText (Accepted m) f = header m (begins f m) (changingOf fresh f) ++ linesOf (commandsTo f m)
 checkedText (NotAccepted r) f = refused (ofRefusal r .number)
 
 pub text-alone : (f : List ℕ) (work : ℕ) → 32256 ≤ work → text f work ≡ checkedText (checked f) f

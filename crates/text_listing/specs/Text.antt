@@ -1,6 +1,6 @@
--- The listing of a script file: document 01, "The listing program". The header, then a line a command; or `refused`, a space and
--- the number of "Numbers returned". What the text is put into wants room for the longest text of so many commands: 57 bytes, and
--- 12 for each command. With less nothing is put there. Laws of the text are proofs/TextLaws.
+-- The listing of a script file: document 01, "The listing program", and document 02, P6. The header of two lines, then a line a
+-- command; or `refused`, a space and the number of "Numbers returned". What the text is put into wants room for the longest text
+-- of so many commands: 87 bytes, and 12 for each command. With less nothing is put there. Laws of the text are proofs/TextLaws.
 use Prim.Native.Nat.{ℕ, _+_, _*_}
 use mathlib.Core.Bool.{cond}
 use mathlib.Core.List.{List, _++_}
@@ -13,6 +13,7 @@ use Rattle.script.specs.Numbers.{ofRefusal, checksTable}
 use Rattle.script_commands.specs.Translation.{commandsTo, translated}
 use Rattle.script_commands.specs.declared.Translated.{Translated}
 use Rattle.script_commands.specs.declared.Translated.the-variants.{Commands, Refused as NotTranslated}
+use Rattle.chip_play.specs.Played.{fresh, changingOf}
 use Rattle.text.specs.Ascii.{ascii}
 use Rattle.text.specs.Digits.{decimal}
 use Rattle.text.specs.Refused.{refused}
@@ -20,12 +21,19 @@ use Rattle.text_listing.specs.Line.{linesOf}
 use Rattle.text_listing.specs.declared.Listed.{Listed}
 use Rattle.text_listing.specs.declared.Listed.the-variants.{Text, Refused, Short}
 
-abbrev pub header : ℕ → ℕ → List ℕ
-header steps commands = ascii "steps " ++ decimal steps ++ ascii " commands " ++ decimal commands ++ ascii "\n"
+abbrev pub countsLine : ℕ → ℕ → List ℕ
+countsLine steps commands = ascii "steps " ++ decimal steps ++ ascii " commands " ++ decimal commands ++ ascii "\n"
 
--- the text for what the translation of a file answers
+abbrev pub changingLine : ℕ → List ℕ
+changingLine changing = ascii "changing " ++ decimal changing ++ ascii "\n"
+
+abbrev pub header : ℕ → ℕ → ℕ → List ℕ
+header steps commands changing = countsLine steps commands ++ changingLine changing
+
+-- the text for what the translation of a file answers; the commands that change a register or a colour are counted from the state
+-- after a reset with pin bytes FFh and FFh
 abbrev pub textBy : Translated → List ℕ → List ℕ
-textBy (Commands k) f = header (stepCount f) k ++ linesOf (commandsTo f (stepCount f))
+textBy (Commands k) f = header (stepCount f) k (changingOf fresh f) ++ linesOf (commandsTo f (stepCount f))
 textBy (NotTranslated r) f = refused (ofRefusal r .number)
 
 -- the text of a file whose commands have so much room
@@ -34,8 +42,8 @@ text f work = textBy (translated f work) f
 
 -- the room that the text wants, whatever the numbers in it
 abbrev pub wanted : Translated → ℕ
-wanted (Commands k) = 57 + 12 * k
-wanted (NotTranslated r) = 57
+wanted (Commands k) = 87 + 12 * k
+wanted (NotTranslated r) = 87
 
 -- the answer for a text of so many bytes: for a file that is refused, why is handed out with it
 abbrev pub answered : Translated → ℕ → Listed

@@ -1,27 +1,31 @@
 // The listing of a script file as text: a header, then a line for each of its commands; or the number of its
-// refusal. Document 01, "The listing program". The definition is specs/Text, with the lines in specs/Line and
-// the digits in the crate text. Reading a file and printing the text is the program listing's.
+// refusal. Document 01, "The listing program", and document 02, P6: how many commands change a register or a colour on a
+// chip after a reset. The definition is specs/Text, with the lines in specs/Line and the digits in the crate text. Reading
+// a file and printing the text is the program listing's.
 ghost use mathlib.Core.Path.{_≡_};
 ghost use mathlib.Core.List.{_++_};
 ghost use Prim.Native.Nat.{_+_, _*_, _≤_};
 ghost use lib.ListN.{length};
 ghost use Rattle.script_commands.specs.Translation.{translated, leftBy as translatedBy};
-ghost use Rattle.text_listing.specs.Line.{line};
+ghost use Rattle.text.specs.Adding.{AddedIn};
+ghost use Rattle.text_listing.specs.Line.{words, line};
 ghost use Rattle.text.specs.Refused.{refused};
-ghost use Rattle.text_listing.specs.Text.{header, listed, leftBy, ofListed, listedTable};
+ghost use Rattle.text_listing.specs.Text.{countsLine, changingLine, header, listed, leftBy, ofListed, listedTable};
 ghost use Rattle.lists.specs.Put.{Added};
 ghost use Rattle.text_listing.specs.Adding.{lineRead, linesTo};
+use chip::Chip;
+use chip_play::Outcome;
+use chip_play::play;
 use script::Refusal;
 use script::step_count;
 use script_commands::Command;
 use script_commands::CommandRead;
-use script_commands::Translated;
 use script_commands::command_of;
-use script_commands::translate;
 use text::add;
 use text::add_decimal;
 use text::add_refused;
 use text::digit;
+use text::has_room;
 
 // What the listing answers: how many bytes of text there are, for a file that is refused with the refusal; or that the
 // output is too short.
@@ -31,10 +35,10 @@ pub enum Listed {
     Short,
 }
 
-// The line of a command.
-fn add_line(out: &mut [u8], at: usize, c: Command) -> usize
-    requires { ⌜ at + 12 ≤ length (now out) ⌝ }
-    ensures { λ r. ⌜ Added (now (out .entry)) at (line c) (now (out .exit)) r ⌝ }
+// The words of a command.
+fn put_words(out: &mut [u8], at: usize, c: Command) -> usize
+    requires { ⌜ at + 11 ≤ length (now out) ⌝ }
+    ensures { λ r. ⌜ Added (now (out .entry)) at (words c) (now (out .exit)) r ⌝ }
 {
     match c {
         Command::Out(port, value) => {
@@ -50,7 +54,6 @@ fn add_line(out: &mut [u8], at: usize, c: Command) -> usize
                 b' ',
                 digit(v / 16),
                 digit(v),
-                b'\n',
             ];
             add(out, at, &text)
         }
@@ -62,7 +65,6 @@ fn add_line(out: &mut [u8], at: usize, c: Command) -> usize
                 digit(port / 256),
                 digit(port / 16),
                 digit(port),
-                b'\n',
             ];
             add(out, at, &text)
         }
@@ -81,7 +83,6 @@ fn add_line(out: &mut [u8], at: usize, c: Command) -> usize
                 b' ',
                 digit(s / 16),
                 digit(s),
-                b'\n',
             ];
             add(out, at, &text)
         }
@@ -95,11 +96,30 @@ fn add_line(out: &mut [u8], at: usize, c: Command) -> usize
                 digit(port / 256),
                 digit(port / 16),
                 digit(port),
-                b'\n',
             ];
             add(out, at, &text)
         }
     }
+}
+
+// The words of a command, at a place of an output that has 11 bytes from there on; where the next byte goes. With less
+// room nothing changes.
+pub fn add_words(out: &mut [u8], at: usize, c: Command) -> usize
+    ensures { λ r. ⌜ AddedIn 11 (now (out .entry)) at (words c) (now (out .exit)) r ⌝ }
+{
+    if has_room(out.len(), at, 11, 0) {
+        return put_words(out, at, c);
+    }
+    at
+}
+
+// The line of a command.
+fn add_line(out: &mut [u8], at: usize, c: Command) -> usize
+    requires { ⌜ at + 12 ≤ length (now out) ⌝ }
+    ensures { λ r. ⌜ Added (now (out .entry)) at (line c) (now (out .exit)) r ⌝ }
+{
+    let end = put_words(out, at, c);
+    add(out, end, b"\n")
 }
 
 // The line of what four bytes were read as.
@@ -129,10 +149,10 @@ fn add_lines(out: &mut [u8], from: usize, bytes: &[u8], n: usize) -> usize
     at
 }
 
-// The header.
-fn add_header(out: &mut [u8], steps: usize, commands: usize) -> usize
+// The header's first line.
+fn add_counts(out: &mut [u8], steps: usize, commands: usize) -> usize
     requires { ⌜ 57 ≤ length (now out) ⌝ }
-    ensures { λ r. ⌜ Added (now (out .entry)) 0 (header steps commands) (now (out .exit)) r ⌝ }
+    ensures { λ r. ⌜ Added (now (out .entry)) 0 (countsLine steps commands) (now (out .exit)) r ⌝ }
 {
     let first = add(out, 0, b"steps ");
     let word = add_decimal(out, first, steps);
@@ -141,20 +161,39 @@ fn add_header(out: &mut [u8], steps: usize, commands: usize) -> usize
     add(out, end, b"\n")
 }
 
+// The header's second line.
+fn add_changing(out: &mut [u8], at: usize, changing: usize) -> usize
+    requires { ⌜ at + 30 ≤ length (now out) ⌝ }
+    ensures { λ r. ⌜ Added (now (out .entry)) at (changingLine changing) (now (out .exit)) r ⌝ }
+{
+    let word = add(out, at, b"changing ");
+    let end = add_decimal(out, word, changing);
+    add(out, end, b"\n")
+}
+
+// The header.
+fn add_header(out: &mut [u8], steps: usize, commands: usize, changing: usize) -> usize
+    requires { ⌜ 87 ≤ length (now out) ⌝ }
+    ensures { λ r. ⌜ Added (now (out .entry)) 0 (header steps commands changing) (now (out .exit)) r ⌝ }
+{
+    let at = add_counts(out, steps, commands);
+    add_changing(out, at, changing)
+}
+
 // The line of a refusal.
 fn add_refusal(out: &mut [u8], number: usize) -> usize
-    requires { ⌜ 57 ≤ length (now out) ⌝ }
+    requires { ⌜ 87 ≤ length (now out) ⌝ }
     ensures { λ r. ⌜ Added (now (out .entry)) 0 (refused number) (now (out .exit)) r ⌝ }
 {
     add_refused(out, 0, number)
 }
 
 // The header and the lines of k commands.
-fn add_text(out: &mut [u8], steps: usize, bytes: &[u8], k: usize) -> usize
-    requires { ⌜ (4 * k ≤ length (now bytes)) × (57 + 12 * k ≤ length (now out)) ⌝ }
-    ensures { λ r. ⌜ Added (now (out .entry)) 0 (header steps k ++ linesTo (now (bytes .entry)) k) (now (out .exit)) r ⌝ }
+fn add_text(out: &mut [u8], steps: usize, changing: usize, bytes: &[u8], k: usize) -> usize
+    requires { ⌜ (4 * k ≤ length (now bytes)) × (87 + 12 * k ≤ length (now out)) ⌝ }
+    ensures { λ r. ⌜ Added (now (out .entry)) 0 (header steps k changing ++ linesTo (now (bytes .entry)) k) (now (out .exit)) r ⌝ }
 {
-    let at = add_header(out, steps, k);
+    let at = add_header(out, steps, k, changing);
     add_lines(out, at, bytes, k)
 }
 
@@ -165,18 +204,20 @@ pub fn list(file: &[u8], work: &mut [u8], out: &mut [u8]) -> Listed
     ensures { λ r. ⌜ now (work .exit) ≡ translatedBy (translated (now (file .entry)) (length (now (work .entry)))) (now (file .entry)) (now (work .entry)) ⌝ }
     ensures { λ r. ⌜ ofListed r ≡ listedTable (now (file .entry)) (length (now (work .entry))) (length (now (out .entry))) ⌝ }
 {
-    match translate(file, work) {
-        Translated::Refused(r) => {
-            if out.len() < 57 {
+    let played = play(Chip::new(0xFF, 0xFF), file, work);
+    let outcome = played.outcome;
+    match outcome {
+        Outcome::NotPlayed(r) => {
+            if out.len() < 87 {
                 return Listed::Short;
             }
             Listed::Refused(r, add_refusal(out, r.number() as usize))
         }
-        Translated::Commands(k) => {
-            if out.len() < 57 + 12 * k {
+        Outcome::Played(k, changing, _) => {
+            if out.len() < 87 + 12 * k {
                 return Listed::Short;
             }
-            Listed::Text(add_text(out, step_count(file), work, k))
+            Listed::Text(add_text(out, step_count(file), changing, work, k))
         }
     }
 }

@@ -1,7 +1,8 @@
--- The words and the numbers, one behind the other.
-use borrow.Author.Needs.{needs}
+-- The two lines, one behind the other.
 use native.Mathlib.Omega.{arith}
-use Rattle.text.proofs.Adding.{then-in}
+use borrow.Author.Needs.{needs}
+use Rattle.lists.proofs.Put.{added-append}
+use Rattle.text_listing.proofs.Listing.{counts-most, changing-most}
 use Rattle.text_listing.proofs.add_header.Statement.{statement}
 use Rattle.text_listing.proofs.add_header.Tie as tie
 
@@ -9,17 +10,9 @@ pub add-header-spec : {M : Type 1} → statement M
 add-header-spec =
     tie.close
     (tie.spec
+    (λ c κs. search needs)
+    (λ c κs. omega (arith, counts-most (c .before .before .before .before .before .before .args .steps) (c .before .before .before .before .before .before .args .commands)))
     (λ c. search needs)
-    (λ c κs. search needs)
-    (λ c κs. search needs)
-    (λ c. search needs)
-    (λ c κs. search needs)
-    (λ c κs. search needs)
-    (λ c. search needs)
-    (λ c κs. search needs)
-    (λ c. search needs)
-    (λ c. let first = c .before .before .before .before .before .before .before .before .before .before .before .before .before .before .before .before .before .before .before .before .add .ensures .here (omega arith) in
-    let steps = then-in 20 first (c .before .before .before .before .before .before .before .before .before .before .before .before .before .before .before .before .add-decimal .ensures) (omega arith) in
-    let word = then-in 10 steps (c .before .before .before .before .before .before .before .before .before .before .before .add2 .ensures) (omega arith) in
-    let count = then-in 20 word (c .before .before .before .before .before .before .before .add-decimal2 .ensures) (omega arith) in
-    then-in 1 count (c .before .before .add3 .ensures) (omega arith)))
+    (λ c. let a = c .before .before .before .before .before .before .before .before .before .args in
+    added-append (c .before .before .before .before .before .before .add-counts .ensures) (c .before .before .add-changing .ensures)
+    (omega (arith, counts-most (a .steps) (a .commands), changing-most (a .changing)))))

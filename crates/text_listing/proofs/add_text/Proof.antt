@@ -14,10 +14,10 @@ add-text-spec =
     (tie.spec
     (λ c κs. search needs)
     (λ c κs. let s = c .before .before .before .before .before .before .before in
-    (s .pre .0, omega (arith, header-most (s .args .steps) (s .args .k))))
+    (s .pre .0, omega (arith, header-most (s .args .steps) (s .args .k) (s .args .changing))))
     (λ c. search needs)
     (λ c. let s = c .before .before .before .before .before .before .before .before .before .before in
     let front = c .before .before .before .before .before .before .add-header .ensures in
     let rest = c .before .before .add-lines .ensures in
     added-append front rest
-    (omega (arith, header-most (s .args .steps) (s .args .k), lines-most (now (s .args .bytes)) (s .args .k)))))
+    (omega (arith, header-most (s .args .steps) (s .args .k) (s .args .changing), lines-most (now (s .args .bytes)) (s .args .k)))))
