@@ -19,7 +19,7 @@ use Rattle.blit.specs.Transfer.{transferred}
 use Rattle.workbench_requests.specs.declared.Request.{Request}
 use Rattle.workbench_requests.specs.declared.Request.the-variants.{Reset, Out, In, Pixel, Lend, Read, Write, Block, Dump, Help, Quit, Pass, Unknown}
 use Rattle.workbench_replies.specs.declared.Reply.{Reply}
-use Rattle.workbench_replies.specs.declared.Reply.the-variants.{Number, Byte, Colour, Registers, Requests, Nothing, Unknown as NoForm}
+use Rattle.workbench_replies.specs.declared.Reply.the-variants.{Number, Byte, Told, Colour, Registers, Requests, Nothing, Unknown as NoForm}
 
 -- ---- the bench
 
@@ -72,8 +72,9 @@ cleared store n = replicate n 0 ++ drop n store
 abbrev pub afterReset : Bench → ℕ → ℕ → Acted
 afterReset b first second = replied (withChip b (reset first second)) (Number 0)
 
+-- document 02, P6: the register's byte before the write and after it; a refused write gives FFh twice
 abbrev pub afterOut : Bench → Wrote → Acted
-afterOut b w = replied (withChip b (w .chip)) (Number (answerNumber (w .answer)))
+afterOut b w = replied (withChip b (w .chip)) (Told (answerNumber (w .answer)) (w .before) (w .after))
 
 -- a refused read gives FFh
 abbrev pub afterIn : Bench → Seen → Acted

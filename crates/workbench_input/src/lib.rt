@@ -78,7 +78,7 @@ fn restart(b: Bench, first: u8, second: u8) -> Acted
     }
 }
 
-// A port write.
+// A port write: its number, and the register's byte before it and after it.
 fn output(b: Bench, port: u16, v: u8) -> Acted
     ensures { λ r. ⌜ viewActed r ≡ afterOut (viewBench b) (portWritten (view (b .chip)) port v) ⌝ }
 {
@@ -90,7 +90,7 @@ fn output(b: Bench, port: u16, v: u8) -> Acted
     let bench = with_chip(b, chip);
     Acted {
         bench,
-        reply: Reply::Number(n),
+        reply: Reply::Told(n, w.before, w.after),
     }
 }
 

@@ -10,7 +10,7 @@ use Rattle.chip.specs.State.{Named}
 use Rattle.text_registers.proofs.Lengths.{dumped-most}
 use Rattle.workbench_replies.specs.Reply.{replyText}
 use Rattle.workbench_replies.specs.declared.Reply.{Reply}
-use Rattle.workbench_replies.specs.declared.Reply.the-variants.{Number, Byte, Colour, Registers, Requests, Nothing, Unknown}
+use Rattle.workbench_replies.specs.declared.Reply.the-variants.{Number, Byte, Told, Colour, Registers, Requests, Nothing, Unknown}
 
 -- ---- the text of an answer
 module _ (n : Named) where
@@ -18,6 +18,7 @@ module _ (n : Named) where
   unfolding replyText
   length-reply (Number k) = let h : length (decimal k) ≤ 20 = decimal-most 20 k in simp length-append (omega arith)
   length-reply (Byte k v) = let h : length (decimal k) ≤ 20 = decimal-most 20 k in simp length-append (omega arith)
+  length-reply (Told k before after) = let h : length (decimal k) ≤ 20 = decimal-most 20 k in simp length-append (omega arith)
   length-reply (Colour red green blue) = omega arith
   length-reply Registers = dumped-most n
   length-reply Requests = omega arith
@@ -35,6 +36,10 @@ module _ (n : Named) where
   pub reply-byte : replyText n (Byte 1 0xFF) ≡ ascii "1 FF\n"
   unfolding replyText decimalIn
   reply-byte = refl
+
+  pub reply-told : replyText n (Told 0 0x00 0x43) ≡ ascii "0 00 43\n"
+  unfolding replyText decimalIn
+  reply-told = refl
 
   pub reply-colour : replyText n (Colour 0xFC 0x00 0x54) ≡ ascii "0 FC 00 54\n"
   unfolding replyText

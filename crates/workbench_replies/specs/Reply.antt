@@ -8,7 +8,7 @@ use Rattle.chip.specs.State.{Named}
 use Rattle.text_registers.specs.Text.{dumped}
 use Rattle.text.specs.Ascii.{ascii}
 use Rattle.workbench_replies.specs.declared.Reply.{Reply}
-use Rattle.workbench_replies.specs.declared.Reply.the-variants.{Number, Byte, Colour, Registers, Requests, Nothing, Unknown}
+use Rattle.workbench_replies.specs.declared.Reply.the-variants.{Number, Byte, Told, Colour, Registers, Requests, Nothing, Unknown}
 
 -- a space and a byte
 abbrev pub spaced : ℕ → List ℕ
@@ -31,10 +31,11 @@ requests =
     ++ ascii "? or help      this list\n"
     ++ ascii "q              the end\n"
 
--- `0`, `0 43`, `0 FC 00 54`, all registers, the requests, nothing, and `?`
+-- `0`, `0 43`, `0 00 43`, `0 FC 00 54`, all registers, the requests, nothing, and `?`
 unfoldable pub replyText : Named → Reply → List ℕ
 replyText n (Number k) = decimal k ++ ascii "\n"
 replyText n (Byte k v) = decimal k ++ spaced v ++ ascii "\n"
+replyText n (Told k before after) = decimal k ++ spaced before ++ spaced after ++ ascii "\n"
 replyText n (Colour red green blue) = ascii "0" ++ spaced red ++ spaced green ++ spaced blue ++ ascii "\n"
 replyText n Registers = dumped n
 replyText n Requests = requests

@@ -1,5 +1,6 @@
-// The text of an answer of the workbench, put into a lent output: a number, a byte, a colour, all registers, or that the
-// line was not known. The definition is specs/Reply; all registers are the crate text_registers's, and digits the crate text's.
+// The text of an answer of the workbench, put into a lent output: a number, a byte, two bytes, a colour, all registers, or
+// that the line was not known. The definition is specs/Reply; all registers are the crate text_registers's, and digits the
+// crate text's.
 ghost use Prim.Native.Nat.{_+_, _≤_};
 ghost use lib.ListN.{length};
 ghost use Rattle.chip.specs.State.{named};
@@ -20,6 +21,8 @@ pub enum Reply {
     Number(u8),
     // A number and a byte.
     Byte(u8, u8),
+    // A number, and a register's byte before and after a write.
+    Told(u8, u8, u8),
     // Red, green and blue.
     Colour(u8, u8, u8),
     // All registers.
@@ -46,6 +49,21 @@ fn add_reply(chip: Chip, reply: Reply, out: &mut [u8], at: usize) -> usize
             let end = add_decimal(out, at, k as usize);
             let v = value as u16;
             let text = [b' ', digit(v / 16), digit(v), b'\n'];
+            add(out, end, &text)
+        }
+        Reply::Told(k, before, after) => {
+            let end = add_decimal(out, at, k as usize);
+            let b = before as u16;
+            let a = after as u16;
+            let text = [
+                b' ',
+                digit(b / 16),
+                digit(b),
+                b' ',
+                digit(a / 16),
+                digit(a),
+                b'\n',
+            ];
             add(out, end, &text)
         }
         Reply::Colour(red, green, blue) => {
