@@ -5,9 +5,9 @@
 -- Assumes nothing.
 use mathlib.Core.Path.{_≡_, _∙_}
 use mathlib.Core.Bool.{Bool, true, false, cond}
-use mathlib.Core.List.{List}
+use mathlib.Core.List.{List, _++_}
 use mathlib.Core.Logic.{_↔_}
-use Prim.Native.Nat.{ℕ, _*_, _/_, _%_, _≤_, _<_}
+use Prim.Native.Nat.{ℕ, _+_, _*_, _/_, _%_, _≤_, _<_}
 use lib.ListN.{length, getD}
 use Rattle.lists.specs.Bits.{bit, isSet}
 use Rattle.lists.specs.Numbers.{returned}
@@ -27,18 +27,19 @@ use Rattle.chip_registers.proofs.RowLaws.{groupOn, indexOn}
 use Rattle.chip_registers.proofs.Stretches.{has}
 use Rattle.chip_registers.proofs.WriteLaws as write-laws
 use Rattle.chip_ports.specs.Ports.{target}
-use Rattle.chip_ports.specs.declared.Target.the-variants.{Index}
+use Rattle.chip_ports.specs.declared.Target.the-variants.{Index, Data, Attribute}
 use Rattle.chip_ports.proofs.PortLaws as port-laws
 use Rattle.chip_ports.proofs.PortLaws.{listedPorts, linesFrom, documented}
-use Rattle.chip.specs.State.{Chip, Named, named, join, withIndex, withPicture, withTurn}
-use Rattle.chip.specs.Names.{register, received, writableAt, portsOpen, picks3Dx, eightBit}
+use Rattle.chip.specs.State.{Chip, Named, named, join, indexOf, withIndex, withPicture, withTurn}
+use Rattle.chip.specs.Names.{register, readByte, received, writableAt, portsOpen, picks3Dx, eightBit}
 use Rattle.chip.specs.Palette.{entry, rgb, shown}
-use Rattle.chip.specs.Access.{answerNumber, accessTable, portWritten, portRead, wrote}
+use Rattle.chip.specs.Access.{answerNumber, accessTable, portWritten, portRead, told}
+use Rattle.chip.specs.Attribute.{attributeAimed}
+use Rattle.chip.specs.Differ.{sameStored}
 use Rattle.chip.specs.Reset.{resetByte}
 use Rattle.chip.specs.Reach.{Reach}
 use Rattle.chip.specs.View.{view as shownBy, Shows}
 use Rattle.chip.specs.declared.Chip.{Chip as Kept}
-use Rattle.chip.specs.declared.access.Answer.the-variants.{Done}
 use Rattle.chip.proofs.NumberLaws as number-laws
 use Rattle.chip.proofs.NameLaws as name-laws
 use Rattle.chip.proofs.NameLaws.{Has, Different}
@@ -47,6 +48,8 @@ use Rattle.chip.proofs.ShownLaws as shown-laws
 use Rattle.chip.proofs.IndexLaws as index-laws
 use Rattle.chip.proofs.AttributeLaws as attribute-laws
 use Rattle.chip.proofs.ViewLaws as view-laws
+use Rattle.chip.proofs.DifferLaws as differ-laws
+use Rattle.chip.proofs.DifferLaws.{Same, tells}
 use Rattle.memory.specs.Memory.{lengthAllowed, byteNumber}
 use Rattle.memory.proofs.Laws as memory-laws
 use Rattle.blit_raster.specs.Raster.{raster}
@@ -64,7 +67,7 @@ use Rattle.script_steps.specs.declared.Step.the-variants.{Set, Field}
 use Rattle.script_steps.specs.declared.StepRead.the-variants.{Refused}
 use Rattle.script_steps.specs.declared.Fault.the-variants.{Unallowed, Idle}
 use Rattle.script_steps.proofs.Lawful as lawful
-use Rattle.script.specs.File.{blocks, checked}
+use Rattle.script.specs.File.{blocks, stepCount, checked}
 use Rattle.script.specs.Numbers.{ofChecked, checkedTable}
 use Rattle.script.specs.Reader.{nextOf}
 use Rattle.script.specs.declared.Checked.the-variants.{Accepted}
@@ -79,14 +82,19 @@ use Rattle.script_commands.specs.Translation.{stepsTo, commandsTo, begins, tran
 use Rattle.script_commands.proofs.Translating as translating
 use Rattle.script_commands.proofs.Counted as counted
 use Rattle.script_commands.proofs.Counted.{sixes, placesTo}
-use Rattle.chip_run.specs.Run.{ran, ofEnding, least, runTable}
+use Rattle.chip_run.specs.Run.{ran, did, altering, carry, Still, ofEnding, least, runTable}
 use Rattle.chip_run.specs.declared.Ending.{Ending}
 use Rattle.chip_run.proofs.RunLaws as run-laws
 use Rattle.chip_run.proofs.RunNumbers as run-number-laws
-use Rattle.chip_play.specs.ByName.{applied, appliedAll}
+use Rattle.chip_run.proofs.ChangingLaws as changing-laws
+use Rattle.chip_run.specs.declared.Verdict.the-variants.{Done as Carried}
+use Rattle.script_commands.specs.declared.CommandRead.{CommandRead}
+use Rattle.chip_play.specs.ByName.{applied, appliedAll, stepsChanging}
+use Rattle.chip_play.specs.Played.{changingOf}
 use Rattle.chip_play.specs.Matching.{Act, Said, gave, KeptGave}
 use Rattle.chip_play.proofs.Matching as matching
 use Rattle.chip_play.proofs.Demand3 as scripts
+use Rattle.chip_play.proofs.StepsChanging as step-counts
 use Rattle.chip_play.proofs.Scripts as script-laws
 use Rattle.chip_play.proofs.Scripts.{AllPass}
 use Rattle.chip_play.proofs.Idle as idle-laws
@@ -251,7 +259,7 @@ demand-3-every-script ss some few pass = let r = script-laws.script-there ss som
 pub demand-3-on-lent-bytes : (file : List ℕ) (m : ℕ) → checked file ≡ Accepted m → (l : List ℕ) → length l ≡ whole → portsOpen (named (view l)) ≡ true
     → (n : ℕ) → n ≤ m → (r : LentRan) (after : List ℕ) → r ≡ runAnswer l (bytesOfAll (commandsTo file m)) (begins file n)
     → Left l (ran (view l) (bytesOfAll (commandsTo file m)) (begins file n) .chip) (spare l) after
-    → ((e : Ending) × (r ≡ Ran (begins file n) e) × (ofEnding e ≡ returned 0 0))
+    → ((e : Ending) × (r ≡ Ran (begins file n) (stepsChanging (stepsTo file n) (named (view l))) e) × (ofEnding e ≡ returned 0 0))
     × (named (view after) ≡ appliedAll (stepsTo file n) (named (view l))) × (view after .picture ≡ view l .picture)
 demand-3-on-lent-bytes file m acc l size open-ports n h r after answer left =
     let a = lent-scripts.demand-3-in .holds file m acc l size open-ports n h r after answer left in
@@ -271,7 +279,7 @@ asked-cases = asked-laws.requests-hold
 -- read of input status 1 returns the turn.
 pub P1-attribute-by-port : (c : Chip) → portsOpen (named c) ≡ true → (v b : ℕ) → c .indexes .turn ≡ false
     → portWritten (portWritten c 0x3C0 v .chip) 0x3C0 b
-    ≡ wrote Done (join (received Ar (withPicture (named c) (isSet 5 v)) (v % 32) b) (withTurn (withIndex Ar (c .indexes) v) false) (c .loading))
+    ≡ told Ar (v % 32) (attributeAimed c v) (join (received Ar (withPicture (named c) (isSet 5 v)) (v % 32) b) (withTurn (withIndex Ar (c .indexes) v) false) (c .loading))
 P1-attribute-by-port = attribute-laws.attribute-by-port
 
 -- P2. A step is refused with 7 where it is not legal, else with 11 where its register has no writable bit, else it passes; a
@@ -297,10 +305,48 @@ P5-folds-at-the-port = index-laws.index-folds
 pub P5-misfit-is-7 : (g i : ℕ) → fits (groupAt g) i ≡ false → ((v : ℕ) → judged (Set g i v) ≡ Refused Unallowed) × ((v m : ℕ) → judged (Field g i v m) ≡ Refused Unallowed)
 P5-misfit-is-7 g i misfit = (lawful.misfit-set g i misfit, lawful.misfit-field g i misfit)
 
+-- P6. A data write hands back the register's byte as it reads before it and after it; a refused write, and one that is of no
+-- register's data, FFh twice.
+pub P6-register-told : (c : Chip) (p v : ℕ) → portsOpen (named c) ≡ true → (g : Group) → target (picks3Dx (named c)) true p ≡ Data g
+    → (portWritten c p v .before ≡ readByte g (named c) (indexOf g (c .indexes)))
+    × (portWritten c p v .after ≡ readByte g (named (portWritten c p v .chip)) (indexOf g (c .indexes)))
+P6-register-told = differ-laws.register-told
+
+pub P6-attribute-told : (c : Chip) (p v : ℕ) → portsOpen (named c) ≡ true → target (picks3Dx (named c)) true p ≡ Attribute → c .indexes .turn ≡ true
+    → (portWritten c p v .before ≡ readByte Ar (named c) (indexOf Ar (c .indexes)))
+    × (portWritten c p v .after ≡ readByte Ar (named (portWritten c p v .chip)) (indexOf Ar (c .indexes)))
+P6-attribute-told = differ-laws.attribute-told
+
+pub P6-elsewhere-FF : (c : Chip) (p v : ℕ) → portsOpen (named c) ≡ true → tells (target (picks3Dx (named c)) true p) c ≡ false
+    → (portWritten c p v .before ≡ 0xFF) × (portWritten c p v .after ≡ 0xFF)
+P6-elsewhere-FF = differ-laws.elsewhere-untold
+
+pub P6-refused-FF : (c : Chip) (p v : ℕ) → (answerNumber (portWritten c p v .answer) ≡ 0 → ⊥) → (portWritten c p v .before ≡ 0xFF) × (portWritten c p v .after ≡ 0xFF)
+P6-refused-FF = differ-laws.refused-untold
+
+-- "Changed a register or a colour": some name has another byte, or some entry another colour. A run counts the commands after
+-- which that is so: at most those that it carried out, of two lists one after the other the sum, and 0 exactly where no command
+-- moved anything. Of a script it is the number of its steps that change something by name, from every state with open ports.
+pub P6-same : (a b : Named) → (sameStored a b ≡ true) ↔ Same a b
+P6-same a b = (differ-laws.stored-same a b, differ-laws.same-stored a b)
+
+pub P6-at-most : (c : Chip) (bytes : List ℕ) (limit : ℕ) → ran c bytes limit .changing ≤ ran c bytes limit .count
+P6-at-most = changing-laws.changing-most
+
+pub P6-sum : (xs ys : List CommandRead) (c d : Chip) (a b : ℕ) → carry c a xs ≡ did Carried b d → altering c a (xs ++ ys) ≡ altering c a xs + altering d b ys
+P6-sum = changing-laws.altering-append
+
+pub P6-none : (rs : List CommandRead) (c : Chip) (acc : ℕ) → (altering c acc rs ≡ 0) ↔ Still c acc rs
+P6-none = changing-laws.changing-none
+
+pub P6-steps : (f : List ℕ) (m : ℕ) → checked f ≡ Accepted m → (c : Chip) → portsOpen (named c) ≡ true
+    → changingOf c f ≡ stepsChanging (stepsTo f (stepCount f)) (named c)
+P6-steps = step-counts.changing-script
+
 -- P7. A kept state, the code's struct with its row of 275 bytes, matches the state that it shows. Whatever is asked, reset, port
 -- write and read, run and script: from matching states the same is said, and matching states are left; what the contract says
--- decides what is kept, and asks for nothing that is not there; and every state that accesses reach in the arrangement of tables is
--- matched.
+-- decides what is kept, and asks for nothing that is not there; and every state that accesses reach in the arrangement of tables
+-- is matched.
 pub P7-matching : (k : Kept) (c : Chip) → Shows k c → (a : Act) (s : Said) (m : Kept) → KeptGave k a s m → (s ≡ gave a c .said) × Shows m (gave a c .chip)
 P7-matching = matching.smaller-state .act
 
