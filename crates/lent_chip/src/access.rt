@@ -16,6 +16,7 @@ use crate::GR_INDEX;
 use crate::INDEX;
 use crate::MR_INDEX;
 use crate::SR_INDEX;
+use crate::UNTOLD;
 use crate::XR_INDEX;
 use crate::aim;
 use crate::attribute_index;
@@ -39,9 +40,7 @@ pub const STATE: usize = 1057;
 
 // Document 01's numbers of an access. An access answers by one word: of a read 256 times the number plus the byte, of a
 // write as specs/Accesses packs it. One number stays in a register, where an enum or a struct would go through memory.
-// Here are the writes that tell of no register: FFh twice.
-const DONE: u64 = 0x0000FFFF;
-
+// Here are the writes that are refused: FFh twice.
 const UNLISTED: u64 = 0x0100FFFF;
 
 const CLOSED: u64 = 0x0200FFFF;
@@ -105,7 +104,7 @@ fn write_to(state: &mut [u8], t: Target, v: u8) -> u64
     match t {
         Target::Index(g) => {
             set_index(state, g, v);
-            DONE
+            UNTOLD
         }
         Target::Data(g) => {
             let i = index(state, g);
@@ -113,16 +112,16 @@ fn write_to(state: &mut [u8], t: Target, v: u8) -> u64
         }
         Target::ReadIndex => {
             aim(state, v, true);
-            DONE
+            UNTOLD
         }
         Target::WriteIndex => {
             aim(state, v, false);
-            DONE
+            UNTOLD
         }
         Target::Paldata => load(state, v),
         Target::Attribute => write_attribute(state, v),
         Target::Status => UNLISTED,
-        Target::NotPicked => DONE,
+        Target::NotPicked => UNTOLD,
         Target::NotListed => UNLISTED,
     }
 }

@@ -65,6 +65,12 @@ pub const PALETTE: usize = 14;
 
 const ROW: usize = 782;
 
+// A write that is done and tells of no register: FFh twice; and the same where a colour differs after it (specs/Accesses
+// says what each bit is).
+const UNTOLD: u64 = 0x0000FFFF;
+
+const COLOUR_DIFFERS: u64 = 0x10000FFFF;
+
 // The numbers of the groups. A group is named by its number where its place and its writable bits are looked up:
 // crate `chip_masks` says why.
 const CR_GROUP: u8 = 0;
@@ -360,7 +366,7 @@ fn load(state: &mut [u8], v: u8) -> u64
 {
     let changed = hold(state, v);
     move_on(state);
-    if changed { 0x10000FFFF } else { 0x0000FFFF }
+    if changed { COLOUR_DIFFERS } else { UNTOLD }
 }
 
 // What PALSTATE reads.
@@ -435,5 +441,5 @@ fn write_attribute(state: &mut [u8], v: u8) -> u64
         return set_attribute(state, v);
     }
     aim_attribute(state, v);
-    0x0000FFFF
+    UNTOLD
 }
