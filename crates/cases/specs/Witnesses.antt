@@ -1,6 +1,6 @@
 -- The witnesses of must-fail edits, computed: for an edit of a rule of the chip, the steps or memory the input that its file
 -- names, with what the right version gives; the edited text gives something else there. A row has the edit's name above it, as
--- CRATE/EDIT.
+-- CRATE/EDIT, or the wrong version in words where no edit has it.
 use mathlib.Core.Bool.{false}
 use mathlib.Core.List.{List, [], _∷_}
 use Rattle.chip_registers.specs.declared.Group.the-variants.{Xr, Ar}
@@ -21,7 +21,7 @@ witnesses =
     ∷ chip 0xFF 0xFF (gets 0x3C4 0x0A ∷ reads 0x3C4 0x02 ∷ [])
     -- chip_ports/pair_not_picked_answers: 55h; chip_ports/index_read_where_not_picked: 0Ah at 3B4h
     ∷ chip 0xFF 0xFF (gets 0x3C2 0x01 ∷ gets 0x3D4 0x0A ∷ gets 0x3B4 0x55 ∷ reads 0x3D4 0x0A ∷ reads 0x3B4 0xFF ∷ [])
-    -- chip/another_groups_index: XR60 43h
+    -- a data port at another group's index: XR60 43h
     ∷ chip 0xFF 0xFF (gets 0x3C2 0x01 ∷ gets 0x3D6 0x61 ∷ gets 0x3D4 0x60 ∷ gets 0x3D7 0x43 ∷ is Xr 0x60 0x00 ∷ is Xr 0x61 0x43 ∷ [])
     -- chip_registers/two_registers_at_one_place: MR02 3Fh
     ∷ chip 0xFF 0xFF (gets 0x3C0 0x02 ∷ gets 0x3C0 0x3F ∷ gets 0x3D2 0x02 ∷ reads 0x3D3 0x00 ∷ is Ar 0x02 0x3F ∷ [])
@@ -42,7 +42,7 @@ witnesses =
     ∷ chip 0xFF 0xFF (leaves 0x3C0 0x20 0xFF 0xFF ∷ [])
     -- chip/before_taken_after_the_write: 43h, 43h
     ∷ chip 0xFF 0xFF (gets 0x3D6 0x60 ∷ alters 0x3D7 0x43 0x00 0x43 ∷ [])
-    -- lent_chip/turn_not_returned: 10h
+    -- a status read that leaves the turn: 10h
     ∷ chip 0xFF 0xFF (gets 0x3C2 0x01 ∷ gets 0x3C0 0x10 ∷ reads 0x3DA 0x00 ∷ gets 0x3C0 0x11 ∷ reads 0x3C0 0x11 ∷ [])
     -- script_steps/AR15_named and script_steps/eleven_before_seven: 11; script_steps/MSR_with_index: a block;
     -- script_steps/SR0A_accepted: a block; script_steps/XR70_accepted: a block; script_steps/FIELD_value_outside_mask: a block
