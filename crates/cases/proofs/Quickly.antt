@@ -8,13 +8,12 @@ use mathlib.Core.Path.{_≡_, refl, sym, ap, _∙_, fun-ext}
 use lib.Dec.{eqb, ltb}
 use lib.ListN.{getD}
 use borrow.Author.Tests.{eq-eqb, ltb-true}
-use Rattle.chip_registers.proofs.IndexLaws.{kept-byte}
 use Rattle.chip_registers.specs.declared.Group.the-variants.{Ar}
 use Rattle.chip_ports.specs.Ports.{target}
 use Rattle.chip_ports.specs.declared.Target.{Target}
 use Rattle.chip_ports.specs.declared.Target.the-variants.{Index, Data, ReadIndex, WriteIndex, Paldata, Attribute, Status, NotPicked, NotListed}
-use Rattle.chip.specs.State.{Chip, Named, named, withNamed, indexByte, indexOf}
-use Rattle.chip.specs.Names.{received, portsOpen, picks3Dx}
+use Rattle.chip.specs.State.{Chip, Named, named, indexOf}
+use Rattle.chip.specs.Names.{portsOpen, picks3Dx}
 use Rattle.chip.specs.Palette.{rgb, entry}
 use Rattle.chip.specs.Attribute.{attributeSet, attributeAimed}
 use Rattle.chip.specs.Access.{Wrote, told, untold, writeTo, portWritten}
@@ -23,7 +22,7 @@ use Rattle.chip.specs.declared.Rgb.{Rgb}
 use Rattle.chip.specs.declared.access.Answer.the-variants.{Done, Closed}
 use Rattle.chip.proofs.NameLaws.{received-keeps-colours}
 use Rattle.chip.proofs.AccessLaws.{write-closed, write-open}
-use Rattle.chip.proofs.DifferLaws.{colour-self, differ-named, unmoved, received-differs, data-differs, paldata-differs, aimed-differs-not}
+use Rattle.chip.proofs.DifferLaws.{colour-self, unmoved, reached-differs, data-differs, paldata-differs, aimed-differs-not}
 use Rattle.cases.specs.Cases.{Row, changing, rowsHoldBy, rowsHold}
 
 -- by the entry at the palette's index, and by the two bytes
@@ -51,9 +50,7 @@ module _ (c : Chip) where
       differ c (w .chip) ≡ tellsChange c w
   by-turn v true =
       let i : ℕ = indexOf Ar (c .indexes) in
-      by-bytes (told Ar i c (attributeSet c v)) (received-keeps-colours Ar (named c) i v)
-      (differ-named c (attributeSet c v) (withNamed c (received Ar (named c) i v)) refl
-      ∙ received-differs Ar c i v (kept-byte Ar (indexByte Ar (c .indexes))))
+      by-bytes (told Ar i c (attributeSet c v)) (received-keeps-colours Ar (named c) i v) (reached-differs Ar c (attributeSet c v) v refl)
   by-turn v false = by-bytes (untold Done (attributeAimed c v)) refl (aimed-differs-not c v)
 
   and-true : (z : Bool) → z ≡ z && true

@@ -158,10 +158,17 @@ pub received-differs : (g : Group) (c : Chip) (i v : ℕ) → i < 256
 unfolding differ
 received-differs g c i v h = ap not (received-same-stored g (named c) i v h)
 
+-- .. and so does any state with what that leaves of the register at a group's index
+pub reached-differs : (g : Group) (c d : Chip) (v : ℕ) → named d ≡ received g (named c) (indexOf g (c .indexes)) v
+    → differ c d ≡ not (eqb (register g (named c) (indexOf g (c .indexes))) (register g (named d) (indexOf g (c .indexes))))
+reached-differs g c d v is =
+    differ-named c d (withNamed c (received g (named c) (indexOf g (c .indexes)) v)) is
+    ∙ received-differs g c (indexOf g (c .indexes)) v (kept-byte g (indexByte g (c .indexes))) ∙ rw is refl
+
 -- a data write differs exactly where it hands back two bytes
 pub data-differs : (g : Group) (c : Chip) (v : ℕ)
     → differ c (writeTo (Data g) c v .chip) ≡ not (eqb (writeTo (Data g) c v .before) (writeTo (Data g) c v .after))
-data-differs g c v = received-differs g c (indexOf g (c .indexes)) v (kept-byte g (indexByte g (c .indexes)))
+data-differs g c v = reached-differs g c (writeTo (Data g) c v .chip) v refl
 
 -- so does a byte to PALDATA where the entry at the index does
 pub paldata-differs : (c : Chip) (v e : ℕ) → c .loading .index ≡ e → e < 256
@@ -212,9 +219,7 @@ target-differs Attribute c v other = go (c .indexes .turn) other
     by z = cond z (told Ar (indexOf Ar (c .indexes)) c (attributeSet c v)) (untold Done (attributeAimed c v))
 
     go : (z : Bool) → (by z .before ≡ by z .after → ⊥) → differ c (by z .chip) ≡ true
-    go true h =
-        differ-named c (attributeSet c v) (withNamed c (received Ar (named c) (indexOf Ar (c .indexes)) v)) refl
-        ∙ received-differs Ar c (indexOf Ar (c .indexes)) v (kept-byte Ar (indexByte Ar (c .indexes))) ∙ ap not (ne-eqb _ _ h)
+    go true h = reached-differs Ar c (attributeSet c v) v refl ∙ ap not (ne-eqb _ _ h)
     go false h = absurd (h refl)
 target-differs Status c v other = absurd (other refl)
 target-differs NotPicked c v other = absurd (other refl)

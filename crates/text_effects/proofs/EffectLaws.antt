@@ -12,11 +12,10 @@ use borrow.Author.Tests.{eq-eqb, ne-eqb, ltb-false}
 use Rattle.chip_registers.specs.Groups.{numberOf}
 use Rattle.chip_registers.specs.declared.Group.{Group}
 use Rattle.chip_registers.specs.declared.Group.the-variants.{Ar}
-use Rattle.chip_registers.proofs.IndexLaws.{kept-byte}
 use Rattle.chip_ports.specs.Ports.{target}
 use Rattle.chip_ports.specs.declared.Target.{Target}
 use Rattle.chip_ports.specs.declared.Target.the-variants.{Index, Data, ReadIndex, WriteIndex, Paldata, Attribute}
-use Rattle.chip.specs.State.{Chip, Named, named, withNamed, indexByte, indexOf}
+use Rattle.chip.specs.State.{Chip, Named, named, indexByte, indexOf}
 use Rattle.chip.specs.Names.{register, received, portsOpen, picks3Dx}
 use Rattle.chip.specs.Palette.{entry, coloured, loaded}
 use Rattle.chip.specs.Attribute.{attributeAimed, attributeSet}
@@ -26,7 +25,7 @@ use Rattle.chip.specs.Access.{Wrote, untold, told as handed, writeTo, portWritt
 use Rattle.chip.specs.Differ.{sameColour, differ}
 use Rattle.chip.specs.declared.access.Answer.the-variants.{Done}
 use Rattle.chip.proofs.AccessLaws.{write-open}
-use Rattle.chip.proofs.DifferLaws.{colour-self, colour-same, differ-named, unmoved, received-differs, paldata-differs, aimed-differs-not, read-differs-not}
+use Rattle.chip.proofs.DifferLaws.{colour-self, colour-same, unmoved, reached-differs, paldata-differs, aimed-differs-not, read-differs-not}
 use Rattle.script.specs.File.{stepCount}
 use Rattle.script.specs.declared.Refusal.the-variants.{Room}
 use Rattle.script_commands.specs.Command.{bytesOfAll}
@@ -60,22 +59,17 @@ behind-same c d h = rw h
 
 -- ---- a register that a write reached, as a write tells of it: its name and the two bytes, or nothing where they are the same
 module _ (g : Group) (c d : Chip) (v : ℕ) (is : named d ≡ received g (named c) (indexOf g (c .indexes)) v) where
-  differs : differ c d ≡ not (eqb (register g (named c) (indexOf g (c .indexes))) (register g (named d) (indexOf g (c .indexes))))
-  differs =
-      differ-named c d (withNamed c (received g (named c) (indexOf g (c .indexes)) v)) is
-      ∙ received-differs g c (indexOf g (c .indexes)) v (kept-byte g (indexByte g (c .indexes))) ∙ rw is refl
-
   told-other : {w : Wrote} → w ≡ handed g (indexOf g (c .indexes)) c d → (w .before ≡ w .after → ⊥)
       → behind c (w .chip) ≡ ascii "   " ++ registerLine (numberOf g) (indexOf g (c .indexes)) (w .before) (w .after)
   unfolding registerChange
   told-other e = rw e (λ other.
-      behind-other c d (differs ∙ ap not (ne-eqb _ _ other))
+      behind-other c d (reached-differs g c d v is ∙ ap not (ne-eqb _ _ other))
       ∙ ap (_++_ (ascii "   "))
       (ap (changed (named c)) is ∙ changed-received g (named c) (indexOf g (c .indexes)) v (kept-index g (indexByte g (c .indexes)))
       ∙ rw (← is, ne-eqb _ _ other)))
 
   told-same : {w : Wrote} → w ≡ handed g (indexOf g (c .indexes)) c d → w .before ≡ w .after → behind c (w .chip) ≡ ascii "\n"
-  told-same e = rw e (λ same. behind-same c d (differs ∙ ap not (eq-eqb _ _ same)))
+  told-same e = rw e (λ same. behind-same c d (reached-differs g c d v is ∙ ap not (eq-eqb _ _ same)))
 
 -- ---- a colour that a write reached
 other-colour : (x y : Rgb) → (x ≡ y → ⊥) → sameColour x y ≡ false
