@@ -25,8 +25,9 @@ use Rattle.script.proofs.Checking.{Legal, answer-says, accepted-table, refused-
 use Rattle.script.proofs.Reading.{accepted-handed, accepted-end}
 use Rattle.script_commands.specs.Command.{bytesOfAll}
 use Rattle.script_commands.specs.Expansion.{expanded, commandsOf}
-use Rattle.script_commands.specs.Translation.{stepsTo, commandsTo, begins, ifRoom, translated, leftBy, ifAccepted, begun, ofTranslated, translatedTable, begunTable}
+use Rattle.script_commands.specs.Translation.{stepsTo, commandsTo, begins, ifRoom, translated, putBy, ifAccepted, begun, ofTranslated, roomTable, translatedTable, begunTable}
 use Rattle.script_commands.specs.Working.{withoutStep, StepsPut}
+use Rattle.script_commands.specs.declared.Command.{Command}
 use Rattle.script_commands.specs.declared.Translated.{Translated}
 use Rattle.script_commands.specs.declared.Translated.the-variants.{Commands, Refused}
 use Rattle.lists.proofs.Put.{added-append, added-none}
@@ -43,66 +44,74 @@ pub added-step : (f o : List ℕ) (j : ℕ) (s : Step) {o₁ o₂ : List ℕ} {e
 added-step f o j s is so-far more room = rw (add-one, commands-next f j s is, bytes-append) (added-append so-far more room)
 
 -- all of them written: they are counted
-pub steps-put : (f o : List ℕ) (m : ℕ) {o′ : List ℕ} {e : ℕ} → Added o 0 (bytesOfAll (commandsTo f m)) o′ e → StepsPut f m o o′ (Commands (e / 4))
-steps-put f o m {o′} {e} s =
-    let n : length (bytesOfAll (commandsTo f m)) ≡ 4 * length (commandsTo f m) = length-bytes (commandsTo f m) in
-    let k : e / 4 ≡ begins f m = omega arith in
+pub steps-put : (cs : List Command) (o : List ℕ) {o′ : List ℕ} {e : ℕ} → Added o 0 (bytesOfAll cs) o′ e → StepsPut cs o o′ (Commands (e / 4))
+steps-put cs o {o′} {e} s =
+    let n : length (bytesOfAll cs) ≡ 4 * length cs = length-bytes cs in
+    let k : e / 4 ≡ length cs = omega arith in
     record { answer = ap Commands k; bytes = s .now }
 
-module _ (f o : List ℕ) (m : ℕ) (acc : checked f ≡ Accepted m) where
-  pub too-little-room : length o / 32 < m → Refused Room ≡ translated f (length o)
-  unfolding translated
-  too-little-room h = let k : length o < 32 * m = omega arith in rw (acc, lt-ltb _ _ k)
-
-  module _ (room : m ≤ length o / 32) where
-    pub enough-room : 32 * m ≤ length o
-    enough-room = omega arith
-
-    pub translated-whole : {o′ : List ℕ} {r : Translated} → StepsPut f m o o′ r → (r ≡ translated f (length o)) × (o′ ≡ leftBy r f o)
-    unfolding translated
-    translated-whole {o′} {r} s =
-        let l : Legal f m = answer-says f acc in (
-          s .answer ∙ rw (acc, le-ltb _ _ enough-room) refl,
-          s .bytes ∙ ap (λ (n : ℕ). put o 0 (bytesOfAll (commandsTo f n))) (sym (l .count)) ∙ ap (λ (t : Translated). leftBy t f o) (sym (s .answer)),
-        )
-
--- what an answer of the translation says of the file
-pub record Translates (f : List ℕ) (room k : ℕ) : Type 0 where
+-- what an answer says of the file, where its first n steps have the commands `list n`
+pub record Translates (f : List ℕ) (list : ℕ → List Command) (room k : ℕ) : Type 0 where
   pub steps : ℕ
   pub accepted : checked f ≡ Accepted steps
   pub counted : stepCount f ≡ steps
-  pub commands : k ≡ begins f steps
+  pub commands : k ≡ length (list steps)
   pub fits : 32 * steps ≤ room
 
-pub translated-says : (f : List ℕ) (room k : ℕ) → translated f room ≡ Commands k → Translates f room k
+-- ---- a file translated into such a list, whichever it is
+module _ (f : List ℕ) (list : ℕ → List Command) where
+  module _ (o : List ℕ) (m : ℕ) (acc : checked f ≡ Accepted m) where
+    pub too-little-room : length o / 32 < m → Refused Room ≡ ifRoom (checked f) list (length o)
+    too-little-room h = let k : length o < 32 * m = omega arith in rw (acc, lt-ltb _ _ k)
+
+    module _ (room : m ≤ length o / 32) where
+      pub enough-room : 32 * m ≤ length o
+      enough-room = omega arith
+
+      pub put-whole : {o′ : List ℕ} {r : Translated} → StepsPut (list m) o o′ r
+          → (r ≡ ifRoom (checked f) list (length o)) × (o′ ≡ putBy r (list (stepCount f)) o)
+      put-whole {o′} {r} s =
+          let l : Legal f m = answer-says f acc in (
+            s .answer ∙ rw (acc, le-ltb _ _ enough-room) refl,
+            s .bytes ∙ ap (λ (n : ℕ). put o 0 (bytesOfAll (list n))) (sym (l .count)) ∙ ap (λ (t : Translated). putBy t (list (stepCount f)) o) (sym (s .answer)),
+          )
+
+  pub room-says : (room k : ℕ) → ifRoom (checked f) list room ≡ Commands k → Translates f list room k
+  room-says room k is = go (checked f) refl is
+    where
+      roomy : (m : ℕ) → checked f ≡ Accepted m → (z : Bool) → ltb room (32 * m) ≡ z → cond z (Refused Room) (Commands (length (list m))) ≡ Commands k → Translates f list room k
+      roomy m acc true e h = absurd (let z : _≡_ {A = ℕ} 0 1 = cc in omega arith)
+      roomy m acc false e h = let l : Legal f m = answer-says f acc in
+          record { steps = m; accepted = acc; counted = l .count; commands = cc; fits = ltb-false _ _ e }
+
+      go : (r : Checked) → checked f ≡ r → ifRoom r list room ≡ Commands k → Translates f list room k
+      go (Accepted m) acc h = roomy m acc (ltb room (32 * m)) refl h
+      go (NotAccepted why) acc h = absurd (let z : _≡_ {A = ℕ} 0 1 = cc in omega arith)
+
+  -- the answer's number and value are those of the table
+  pub room-number : (room : ℕ) → ofTranslated (ifRoom (checked f) list room) ≡ roomTable f list room
+  room-number room = go (checked f) refl
+    where
+      go : (r : Checked) → checked f ≡ r → ofTranslated (ifRoom r list room) ≡ roomTable f list room
+      go (Accepted m) acc =
+          let l : Legal f m = answer-says f acc in
+          of-cond ofTranslated (ltb room (32 * m)) (Refused Room) (Commands (length (list m)))
+          ∙ ap (λ (n : ℕ). cond (ltb room (32 * n)) (returned 9 0) (returned 0 (length (list n)))) (sym (l .count)) ∙ sym (accepted-table f m acc _)
+      go (NotAccepted why) acc = sym (refused-table f why acc _)
+
+  -- what the contract of a translation says, from the answer and the output
+  pub room-answered : (o : List ℕ) {r : Translated} {o′ : List ℕ} → r ≡ ifRoom (checked f) list (length o) → o′ ≡ putBy r (list (stepCount f)) o
+      → (r ≡ ifRoom (checked f) list (length o)) × ((o′ ≡ putBy r (list (stepCount f)) o) × (ofTranslated r ≡ roomTable f list (length o)))
+  room-answered o is left = (is, (left, ap ofTranslated is ∙ room-number (length o)))
+
+-- .. and the plain list of its commands
+pub translated-says : (f : List ℕ) (room k : ℕ) → translated f room ≡ Commands k → Translates f (commandsTo f) room k
 unfolding translated
-translated-says f room k is = go (checked f) refl is
-  where
-    roomy : (m : ℕ) → checked f ≡ Accepted m → (z : Bool) → ltb room (32 * m) ≡ z → cond z (Refused Room) (Commands (begins f m)) ≡ Commands k → Translates f room k
-    roomy m acc true e h = absurd (let z : _≡_ {A = ℕ} 0 1 = cc in omega arith)
-    roomy m acc false e h = let l : Legal f m = answer-says f acc in
-        record { steps = m; accepted = acc; counted = l .count; commands = cc; fits = ltb-false _ _ e }
+translated-says f room k is = room-says f (commandsTo f) room k is
 
-    go : (r : Checked) → checked f ≡ r → ifRoom r f room ≡ Commands k → Translates f room k
-    go (Accepted m) acc h = roomy m acc (ltb room (32 * m)) refl h
-    go (NotAccepted why) acc h = absurd (let z : _≡_ {A = ℕ} 0 1 = cc in omega arith)
-
--- the answer's number and value are those of the table
 pub translated-number : (f : List ℕ) (room : ℕ) → ofTranslated (translated f room) ≡ translatedTable f room
 unfolding translated
-translated-number f room = go (checked f) refl
-  where
-    go : (r : Checked) → checked f ≡ r → ofTranslated (ifRoom r f room) ≡ translatedTable f room
-    go (Accepted m) acc =
-        let l : Legal f m = answer-says f acc in
-        of-cond ofTranslated (ltb room (32 * m)) (Refused Room) (Commands (begins f m))
-        ∙ ap (λ (n : ℕ). cond (ltb room (32 * n)) (returned 9 0) (returned 0 (begins f n))) (sym (l .count)) ∙ sym (accepted-table f m acc _)
-    go (NotAccepted why) acc = sym (refused-table f why acc _)
-
--- what the contract of `translate` says, from the answer and the output
-pub translated-answered : (f o : List ℕ) {r : Translated} {o′ : List ℕ} → r ≡ translated f (length o) → o′ ≡ leftBy r f o
-    → (r ≡ translated f (length o)) × ((o′ ≡ leftBy r f o) × (ofTranslated r ≡ translatedTable f (length o)))
-translated-answered f o is left = (is, (left, ap ofTranslated is ∙ translated-number f (length o)))
+translated-number f room = room-number f (commandsTo f) room
 
 -- ---- where a step's commands begin
 -- the count ends where no step is handed out: past the last there are no more

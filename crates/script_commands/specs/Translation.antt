@@ -40,18 +40,22 @@ commandsTo f n = commandsOf (stepsTo f n)
 abbrev pub begins : List ℕ → ℕ → ℕ
 begins f n = length (commandsTo f n)
 
--- an accepted file wants 32 bytes a step, even where its commands would fit in fewer
-abbrev pub ifRoom : Checked → List ℕ → ℕ → Translated
-ifRoom (Accepted m) f room = cond (ltb room (32 * m)) (Refused Room) (Commands (begins f m))
-ifRoom (NotAccepted r) f room = Refused r
+-- an accepted file, with the list of the commands of its first so many steps, wants 32 bytes a step, even where its commands
+-- would fit in fewer
+abbrev pub ifRoom : Checked → (ℕ → List Command) → ℕ → Translated
+ifRoom (Accepted m) list room = cond (ltb room (32 * m)) (Refused Room) (Commands (length (list m)))
+ifRoom (NotAccepted r) list room = Refused r
 
 unfoldable pub translated : List ℕ → ℕ → Translated
-translated f room = ifRoom (checked f) f room
+translated f room = ifRoom (checked f) (commandsTo f) room
 
 -- what the lent output then holds: a refusal changes no byte, and bytes after the commands keep their value
+abbrev pub putBy : Translated → List Command → List ℕ → List ℕ
+putBy (Commands k) cs out = put out 0 (bytesOfAll cs)
+putBy (Refused r) cs out = out
+
 abbrev pub leftBy : Translated → List ℕ → List ℕ → List ℕ
-leftBy (Commands k) f out = put out 0 (bytesOfAll (commandsTo f (stepCount f)))
-leftBy (Refused r) f out = out
+leftBy t f out = putBy t (commandsTo f (stepCount f)) out
 
 -- where the commands of step n of a file begin: how many commands the steps before it have. Past the last step there are no more
 abbrev pub ifAccepted : Checked → List ℕ → ℕ → Translated
@@ -67,8 +71,11 @@ ofTranslated (Commands k) = returned 0 k
 ofTranslated (Refused r) = ofRefusal r
 
 -- the table of numbers for a translation, in its order: 8, 6, 7 or 11, 9
+abbrev pub roomTable : List ℕ → (ℕ → List Command) → ℕ → Returned
+roomTable f list room = checksTable f (cond (ltb room (32 * stepCount f)) (returned 9 0) (returned 0 (length (list (stepCount f)))))
+
 abbrev pub translatedTable : List ℕ → ℕ → Returned
-translatedTable f room = checksTable f (cond (ltb room (32 * stepCount f)) (returned 9 0) (returned 0 (begins f (stepCount f))))
+translatedTable f room = roomTable f (commandsTo f) room
 
 -- .. and for where a step's commands begin
 abbrev pub begunTable : List ℕ → ℕ → Returned

@@ -1,13 +1,14 @@
--- For the contracts of private functions alone: nothing here has to be believed. What `put_steps` and `count_steps` answer where
--- the reader hands out no step, and what `put_steps` leaves in the output.
+-- For the contracts of functions on the way: nothing here has to be believed. What `put_steps`, `count_steps` and those of crate
+-- `script_short` answer where the reader hands out no step, and what `put_steps` leaves in the output.
 use Prim.Native.Nat.{ℕ}
 use mathlib.Core.Path.{_≡_}
 use mathlib.Core.List.{List}
+use lib.ListN.{length}
 use Rattle.lists.specs.Put.{put}
 use Rattle.script.specs.declared.Next.{Next}
 use Rattle.script.specs.declared.Next.the-variants.{Found, Refused as NoStep, End}
 use Rattle.script_commands.specs.Command.{bytesOfAll}
-use Rattle.script_commands.specs.Translation.{commandsTo, begins}
+use Rattle.script_commands.specs.declared.Command.{Command}
 use Rattle.script_commands.specs.declared.Translated.{Translated}
 use Rattle.script_commands.specs.declared.Translated.the-variants.{Commands, Refused}
 
@@ -17,7 +18,7 @@ withoutStep (Found s) k = Commands k
 withoutStep (NoStep r) k = Refused r
 withoutStep End k = Commands k
 
--- the commands of the first m steps of a file stand in front of an output, and are counted
-pub record StepsPut (f : List ℕ) (m : ℕ) (before after : List ℕ) (r : Translated) : Type 0 where
-  pub answer : r ≡ Commands (begins f m)
-  pub bytes : after ≡ put before 0 (bytesOfAll (commandsTo f m))
+-- commands stand in front of an output, and are counted
+pub record StepsPut (cs : List Command) (before after : List ℕ) (r : Translated) : Type 0 where
+  pub answer : r ≡ Commands (length cs)
+  pub bytes : after ≡ put before 0 (bytesOfAll cs)

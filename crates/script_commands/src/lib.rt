@@ -1,14 +1,17 @@
 // Commands: four bytes each, and the commands that a script's steps stand for. Document 01, "Commands", and
 // number 9 for commands; document 02, P1, for group 8. Running them is crate `chip_run`'s.
 ghost use mathlib.Core.Path.{_≡_};
+ghost use mathlib.Core.Bool.{cond};
 ghost use mathlib.Core.List.{[], _∷_};
 ghost use Prim.Native.Nat.{ℕ, _+_, _*_, _≤_, _%_, _/_};
+ghost use lib.Dec.{ltb};
 ghost use lib.ListN.{length};
 ghost use Rattle.script.specs.File.{checked};
 ghost use Rattle.lists.specs.Put.{Added};
 ghost use Rattle.script_commands.specs.Command.{bytesOf, bytesOfAll, commandOf};
 ghost use Rattle.script_commands.specs.Expansion.{ways as waysOf, turned, setBy, fieldBy, expanded};
-ghost use Rattle.script_commands.specs.Translation.{begins, translated, leftBy, begun, ofTranslated, translatedTable, begunTable};
+ghost use Rattle.script_commands.specs.Known.{indexWrite, knownSet, knownChange, setKnown, fieldKnown, expandedKnown};
+ghost use Rattle.script_commands.specs.Translation.{commandsTo, begins, translated, leftBy, begun, ofTranslated, translatedTable, begunTable};
 ghost use Rattle.script_commands.specs.Working.{withoutStep, StepsPut};
 use script::Checked;
 use script::Next;
@@ -150,12 +153,44 @@ fn put_change(out: &mut [u8], at: usize, r: u16, w: u16, keep: u8, set: u8) -> u
     put_command(out, third, Command::OutAcc(w))
 }
 
-// An index, and then a read, a merge and a write back.
-fn put_indexed_change(out: &mut [u8], at: usize, x: u16, i: u8, p: u16, keep: u8, set: u8) -> usize
-    requires { ⌜ at + 16 ≤ length (now out) ⌝ }
-    ensures { λ e. ⌜ Added (now (out .entry)) at (bytesOfAll (Command.Out x i ∷ Command.In p ∷ Command.Merge keep set ∷ Command.OutAcc p ∷ [])) (now (out .exit)) e ⌝ }
+// An index, unless it is known to stand.
+fn put_index(out: &mut [u8], at: usize, known: bool, x: u16, i: u8) -> usize
+    requires { ⌜ at + 4 ≤ length (now out) ⌝ }
+    ensures { λ e. ⌜ Added (now (out .entry)) at (bytesOfAll (indexWrite known x i)) (now (out .exit)) e ⌝ }
+    ensures { λ e. ⌜ e ≤ at + 4 ⌝ }
 {
-    let next = put_command(out, at, Command::Out(x, i));
+    if known {
+        return at;
+    }
+    put_command(out, at, Command::Out(x, i))
+}
+
+// An index, and then a byte.
+fn put_indexed(out: &mut [u8], at: usize, known: bool, x: u16, i: u8, p: u16, v: u8) -> usize
+    requires { ⌜ at + 8 ≤ length (now out) ⌝ }
+    ensures { λ e. ⌜ Added (now (out .entry)) at (bytesOfAll (knownSet known x p i v)) (now (out .exit)) e ⌝ }
+    ensures { λ e. ⌜ e ≤ at + 8 ⌝ }
+{
+    let next = put_index(out, at, known, x, i);
+    put_command(out, next, Command::Out(p, v))
+}
+
+// An index, and then a read, a merge and a write back.
+fn put_indexed_change(
+    out: &mut [u8],
+    at: usize,
+    known: bool,
+    x: u16,
+    i: u8,
+    p: u16,
+    keep: u8,
+    set: u8,
+) -> usize
+    requires { ⌜ at + 16 ≤ length (now out) ⌝ }
+    ensures { λ e. ⌜ Added (now (out .entry)) at (bytesOfAll (knownChange known x p i keep set)) (now (out .exit)) e ⌝ }
+    ensures { λ e. ⌜ e ≤ at + 16 ⌝ }
+{
+    let next = put_index(out, at, known, x, i);
     put_change(out, next, p, p, keep, set)
 }
 
@@ -170,15 +205,15 @@ fn put_turned(out: &mut [u8], at: usize, p: u16, i: u8) -> usize
 }
 
 // The commands of a SET.
-fn put_set(out: &mut [u8], at: usize, w: Ways, i: u8, v: u8) -> usize
+fn put_set(out: &mut [u8], at: usize, known: bool, w: Ways, i: u8, v: u8) -> usize
     requires { ⌜ at + 32 ≤ length (now out) ⌝ }
-    ensures { λ r. ⌜ Added (now (out .entry)) at (bytesOfAll (setBy w i v)) (now (out .exit)) r ⌝ }
+    ensures { λ r. ⌜ Added (now (out .entry)) at (bytesOfAll (setKnown known w i v)) (now (out .exit)) r ⌝ }
 {
     match w {
-        Ways::Pair(x, p) => put_outs(out, at, x, i, p, v),
+        Ways::Pair(x, p) => put_indexed(out, at, known, x, i, p, v),
         Ways::Pairs(x, p, y, q) => {
-            let next = put_outs(out, at, x, i, p, v);
-            put_outs(out, next, y, i, q, v)
+            let next = put_indexed(out, at, known, x, i, p, v);
+            put_indexed(out, next, known, y, i, q, v)
         }
         Ways::Direct(p, _) => put_command(out, at, Command::Out(p, v)),
         Ways::Turns(p, _) => {
@@ -190,15 +225,15 @@ fn put_set(out: &mut [u8], at: usize, w: Ways, i: u8, v: u8) -> usize
 }
 
 // The commands of a FIELD.
-fn put_field(out: &mut [u8], at: usize, w: Ways, i: u8, keep: u8, set: u8) -> usize
+fn put_field(out: &mut [u8], at: usize, known: bool, w: Ways, i: u8, keep: u8, set: u8) -> usize
     requires { ⌜ at + 32 ≤ length (now out) ⌝ }
-    ensures { λ r. ⌜ Added (now (out .entry)) at (bytesOfAll (fieldBy w i keep set)) (now (out .exit)) r ⌝ }
+    ensures { λ r. ⌜ Added (now (out .entry)) at (bytesOfAll (fieldKnown known w i keep set)) (now (out .exit)) r ⌝ }
 {
     match w {
-        Ways::Pair(x, p) => put_indexed_change(out, at, x, i, p, keep, set),
+        Ways::Pair(x, p) => put_indexed_change(out, at, known, x, i, p, keep, set),
         Ways::Pairs(x, p, y, q) => {
-            let next = put_indexed_change(out, at, x, i, p, keep, set);
-            put_indexed_change(out, next, y, i, q, keep, set)
+            let next = put_indexed_change(out, at, known, x, i, p, keep, set);
+            put_indexed_change(out, next, known, y, i, q, keep, set)
         }
         Ways::Direct(p, r) => put_change(out, at, r, p, keep, set),
         Ways::Turns(p, r) => {
@@ -209,10 +244,10 @@ fn put_field(out: &mut [u8], at: usize, w: Ways, i: u8, keep: u8, set: u8) -> us
     }
 }
 
-// The commands of a step.
-fn put_step(out: &mut [u8], at: usize, s: Step) -> usize
+// The commands of a step, without the writes of its index where that is known to stand.
+fn put_step(out: &mut [u8], at: usize, known: bool, s: Step) -> usize
     requires { ⌜ at + 32 ≤ length (now out) ⌝ }
-    ensures { λ r. ⌜ Added (now (out .entry)) at (bytesOfAll (expanded s)) (now (out .exit)) r ⌝ }
+    ensures { λ r. ⌜ Added (now (out .entry)) at (bytesOfAll (expandedKnown known s)) (now (out .exit)) r ⌝ }
 {
     match s {
         Step::Set {
@@ -221,7 +256,7 @@ fn put_step(out: &mut [u8], at: usize, s: Step) -> usize
             value,
         } => {
             let w = ports_of(group);
-            put_set(out, at, w, index, value)
+            put_set(out, at, known, w, index, value)
         }
         Step::Field {
             group,
@@ -230,7 +265,7 @@ fn put_step(out: &mut [u8], at: usize, s: Step) -> usize
             mask,
         } => {
             let w = ports_of(group);
-            put_field(out, at, w, index, 0xFF - mask, value)
+            put_field(out, at, known, w, index, 0xFF - mask, value)
         }
         Step::Colour {
             entry,
@@ -244,8 +279,22 @@ fn put_step(out: &mut [u8], at: usize, s: Step) -> usize
     }
 }
 
+// The same at a place of an output that has 32 bytes from there on; with less room nothing changes. Where the next one goes.
+pub fn add_step(out: &mut [u8], at: usize, known: bool, s: Step) -> usize
+    ensures { λ r. ⌜ Added (now (out .entry)) at (cond (ltb (length (now (out .entry))) (at + 32)) [] (bytesOfAll (expandedKnown known s))) (now (out .exit)) r ⌝ }
+{
+    let size = out.len();
+    if size < 32 {
+        return at;
+    }
+    if size - 32 < at {
+        return at;
+    }
+    put_step(out, at, known, s)
+}
+
 // What is answered where the reader hands out no step: its refusal, or at the end the commands so far.
-fn without_step(next: Next, k: usize) -> Translated
+pub fn without_step(next: Next, k: usize) -> Translated
     ensures { λ r. ⌜ r ≡ withoutStep next k ⌝ }
 {
     match next {
@@ -261,7 +310,7 @@ fn without_step(next: Next, k: usize) -> Translated
 // unjudged would answer by a second definition.
 fn put_steps(file: &[u8], m: usize, out: &mut [u8]) -> Translated
     requires { ⌜ (checked (now file) ≡ Checked.Accepted m) × (32 * m ≤ length (now out)) ⌝ }
-    ensures { λ r. ⌜ StepsPut (now (file .entry)) m (now (out .entry)) (now (out .exit)) r ⌝ }
+    ensures { λ r. ⌜ StepsPut (commandsTo (now (file .entry)) m) (now (out .entry)) (now (out .exit)) r ⌝ }
 {
     let mut at = 0;
     let mut j = 0;
@@ -270,7 +319,7 @@ fn put_steps(file: &[u8], m: usize, out: &mut [u8]) -> Translated
         let Next::Found(step) = next else {
             return without_step(next, at / 4);
         };
-        at = put_step(out, at, step);
+        at = put_step(out, at, false, step);
         j += 1;
     }
     Translated::Commands(at / 4)

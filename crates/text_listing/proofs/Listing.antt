@@ -67,7 +67,7 @@ translated-few f work k e = go (checked f) refl e
         let s : m ≤ 1008 = accepted-few f m acc .1 in
         record { count = sym same ∙ ap (begins f) (sym (l .count)); room = omega arith; few = omega arith }
 
-    go : (r : Checked) → checked f ≡ r → ifRoom r f work ≡ Commands k → Few f work k
+    go : (r : Checked) → checked f ≡ r → ifRoom r (commandsTo f) work ≡ Commands k → Few f work k
     go (Accepted m) acc e = taken m acc (ltb work (32 * m)) refl e
     go (NotAccepted r) acc e = absurd (let z : _≡_ {A = ℕ} 0 1 = cc in omega arith)
 
@@ -105,7 +105,7 @@ unfolding translated
 answered-number f work n = go (checked f) refl
   where
     go : (r : Checked) → checked f ≡ r
-        → ofListed (answered (ifRoom r f work) n) ≡ checksTable f (cond (ltb work (32 * stepCount f)) (returned 9 0) (returned 0 n))
+        → ofListed (answered (ifRoom r (commandsTo f) work) n) ≡ checksTable f (cond (ltb work (32 * stepCount f)) (returned 9 0) (returned 0 n))
     go (Accepted m) acc =
         let count : stepCount f ≡ m = answer-says f acc .count in
         of-cond (λ (t : Translated). ofListed (answered t n)) (ltb work (32 * m)) (Refused Room) (Commands (begins f m))

@@ -104,7 +104,7 @@ pub text-alone : (f : List ℕ) (work : ℕ) → 32256 ≤ work → text f work 
 unfolding text translated
 text-alone f work h = go (checked f) refl
   where
-    go : (r : Checked) → checked f ≡ r → textBy (ifRoom r f work) f ≡ checkedText r f
+    go : (r : Checked) → checked f ≡ r → textBy (ifRoom r (commandsTo f) work) f ≡ checkedText r f
     go (NotAccepted r) e = refl
     go (Accepted m) e =
         let few : 32 * m ≤ work = omega (arith, accepted-few f m e .1) in

@@ -1,6 +1,7 @@
 -- One behind the other.
 use Rattle.script_commands.specs.Command.{bytesOfAll}
 use Rattle.lists.proofs.Put.{added-append}
+use Rattle.script_commands.proofs.Codec.{bytes-append}
 use borrow.Author.Needs.{needs}
 use native.Mathlib.Omega.{arith}
 use Rattle.script_commands.proofs.put_indexed_change.Statement.{statement}
@@ -15,4 +16,4 @@ put-indexed-change-spec =
     (λ c κs. search needs)
     (λ c. search needs)
     (λ c. let b = c .before .before .before .before .before .before in
-    added-append (b .put-command .ensures) (c .before .before .put-change .ensures) (omega arith)))
+    (rw bytes-append (added-append (b .put-index .ensures .0) (c .before .before .put-change .ensures) (omega arith)), omega arith)))

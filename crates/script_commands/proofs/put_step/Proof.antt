@@ -1,5 +1,5 @@
 -- By the kind of step.
-use Rattle.script_commands.specs.Expansion.{expanded}
+use Rattle.script_commands.specs.Known.{expandedKnown}
 use Rattle.script_commands.specs.Command.{bytesOfAll}
 use Rattle.lists.proofs.Put.{added-append}
 use borrow.Author.Needs.{needs}
@@ -8,7 +8,7 @@ use Rattle.script_commands.proofs.put_step.Statement.{statement}
 use Rattle.script_commands.proofs.put_step.Tie as tie
 
 pub put-step-spec : {M : Type 1} → statement M
-unfolding expanded bytesOfAll
+unfolding expandedKnown bytesOfAll
 put-step-spec =
     tie.close
     (tie.spec

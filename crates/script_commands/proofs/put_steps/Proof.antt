@@ -13,6 +13,7 @@ use Rattle.script_commands.specs.Expansion.{expanded}
 use Rattle.script_commands.specs.Translation.{commandsTo}
 use Rattle.script_commands.proofs.Codec.{length-bytes}
 use Rattle.script_commands.proofs.Expanding.{expanded-most, begins-most}
+use Rattle.script_commands.proofs.Knowing.{nothing-known}
 use Rattle.script_commands.proofs.Translating.{added-start, added-step, steps-put}
 use borrow.Author.Needs.{needs}
 use native.Mathlib.Omega.{arith}
@@ -51,13 +52,14 @@ put-steps-spec =
     let l = here .before .before .before .before in
     let a = l .before .before .before .args in
     let put = c .before .before .put-step in
+    let plain = rw (nothing-known (here .next .given .0 .0)) at (put .ensures) in
     let s : nextOf (a .file .now) (l .loop .j) ≡ _ = sym (here .before .before .nth .ensures .0) ∙ here .next .given .1 in
     let room : put .result ≤ length (a .out .now) =
-    omega (arith, expanded-most (here .next .given .0 .0), length-bytes (expanded (here .next .given .0 .0)), begins-most (a .file .now) (l .loop .j), length-bytes (commandsTo (a .file .now) (l .loop .j))) in
+    omega (arith, plain .next, expanded-most (here .next .given .0 .0), length-bytes (expanded (here .next .given .0 .0)), begins-most (a .file .now) (l .loop .j), length-bytes (commandsTo (a .file .now) (l .loop .j))) in
     let same : length (l .loop .out) ≡ length (a .out .now) = l .loop .inv .1 in
-    (added-step _ _ _ _ s (l .loop .inv .0) (put .ensures) room, added-length (put .ensures) (omega arith) ∙ same, omega arith))
+    (added-step _ _ _ _ s (l .loop .inv .0) plain room, added-length plain (omega arith) ∙ same, omega arith))
     (λ c. c .before .loop .inv .1)
     -- all m of them
     (λ c. let l = c .before in
     let all : l .loop .j ≡ l .before .before .before .args .m = omega arith in
-    steps-put _ _ _ (rw all at (l .loop .inv .0))))
+    steps-put (commandsTo (l .before .before .before .args .file .now) (l .before .before .before .args .m)) _ (rw all at (l .loop .inv .0))))
