@@ -1,9 +1,9 @@
 -- With closed ports a script's run stops at its first command, number 2, and the state is as it was: every legal step begins with
 -- a port access.
-use Prim.Native.Nat.{ℕ, _<_}
+use Prim.Native.Nat.{ℕ, suc, _<_}
 use native.Mathlib.Omega.{arith}
 use mathlib.Core.Bool.{true, false}
-use mathlib.Core.Path.{_≡_}
+use mathlib.Core.Path.{_≡_, refl, ap, _∙_}
 use mathlib.Core.List.{List, [], _∷_, _++_}
 use lib.ListN.{length}
 use Rattle.lists.proofs.Tests.{and-both}
@@ -13,13 +13,16 @@ use Rattle.chip.specs.Access.{portWritten, portRead}
 use Rattle.script_steps.specs.Step.{names, within, legal}
 use Rattle.script_steps.specs.declared.Step.{Step}
 use Rattle.script_steps.specs.declared.Step.the-variants.{Set, Field, Colour}
+use Rattle.script_commands.specs.Command.{bytesOfAll}
 use Rattle.script_commands.specs.Expansion.{ways, setBy, fieldBy, expanded, commandsOf}
 use Rattle.script_commands.specs.declared.Command.{Command}
 use Rattle.script_commands.specs.declared.Command.the-variants.{Out, In}
+use Rattle.script_commands.specs.declared.CommandRead.the-variants.{Known}
 use Rattle.script_commands.specs.declared.Ways.{Ways}
 use Rattle.script_commands.specs.declared.Ways.the-variants.{Pair, Pairs, Direct, Turns, Nowhere}
-use Rattle.chip_run.specs.Run.{one, done, runFrom, wentTo}
-use Rattle.chip_run.proofs.RunLaws.{knowns}
+use Rattle.chip_run.specs.Run.{one, done, runFrom, altering, ranTo, ran}
+use Rattle.chip_run.proofs.RunLaws.{run-commands}
+use Rattle.chip_run.specs.declared.Verdict.the-variants.{Bad}
 use Rattle.chip_run.specs.declared.Reason.the-variants.{Closed}
 use Rattle.chip_run.specs.declared.Ending.the-variants.{Stopped}
 use Rattle.chip_registers.specs.Groups.{groupAt}
@@ -27,17 +30,35 @@ use Rattle.chip_play.proofs.Reaching.{Leads, leads}
 use Rattle.chip_play.proofs.Demand3.{AllLegal}
 
 module _ (c : Chip) (shut : portsOpen (named c) ≡ false) where
-  -- a list of commands that stops at its first
-  record Stops (cs : List Command) : Type 0 where
-    at-once : (ds : List Command) → runFrom c 0 0 (length (cs ++ ds)) (knowns (cs ++ ds)) ≡ wentTo c 0 (Stopped 0 Closed)
+  -- a list of commands of which the first is refused
+  pub record Stops (cs : List Command) : Type 0 where
+    pub first : Command
+    pub others : List Command
+    pub whole : cs ≡ first ∷ others
+    pub refused : one c 0 (Known first) .verdict ≡ Bad Closed
+
+  -- a run of it stops there, and has changed nothing
+  pub stops-run : (cs : List Command) → Stops cs → ran c (bytesOfAll cs) (length cs) ≡ ranTo c 0 0 (Stopped 0 Closed)
+  unfolding runFrom altering
+  stops-run cs s =
+      ap (λ (ds : List Command). ran c (bytesOfAll ds) (length ds)) (s .whole) ∙ run-commands c (s .first ∷ s .others) (suc (length (s .others)))
+      ∙ rw (s .refused) refl
+
+  stops-behind : (cs ds : List Command) → Stops cs → Stops (cs ++ ds)
+  stops-behind cs ds s = record {
+    first = s .first;
+    others = s .others ++ ds;
+    whole = ap (λ (l : List Command). l ++ ds) (s .whole);
+    refused = s .refused;
+  }
 
   out-stops : (p v : ℕ) (cs : List Command) → Stops (Out p v ∷ cs)
-  unfolding runFrom one done portWritten
-  out-stops p v cs = record { at-once = λ ds. rw shut }
+  unfolding one done portWritten
+  out-stops p v cs = record { first = Out p v; others = cs; whole = refl; refused = rw shut }
 
   in-stops : (p : ℕ) (cs : List Command) → Stops (In p ∷ cs)
-  unfolding runFrom one done portRead
-  in-stops p cs = record { at-once = λ ds. rw shut }
+  unfolding one done portRead
+  in-stops p cs = record { first = In p; others = cs; whole = refl; refused = rw shut }
 
   set-stops : (w : Ways) (i v group : ℕ) → Leads true (groupAt group) i w → Stops (setBy w i v)
   set-stops (Pair x p) i v group l = out-stops x i _
@@ -59,7 +80,7 @@ module _ (c : Chip) (shut : portsOpen (named c) ≡ false) where
   step-stops (Field group i v m) lawful = field-stops (ways group) i _ v group (leads true group i (and-both (names group i) (within v m) lawful .0))
   step-stops (Colour e r g b) lawful = out-stops 0x3C8 e _
 
-  pub steps-stop : (ss : List Step) → AllLegal ss → 0 < length ss → runFrom c 0 0 (length (commandsOf ss)) (knowns (commandsOf ss)) ≡ wentTo c 0 (Stopped 0 Closed)
+  pub steps-stop : (ss : List Step) → AllLegal ss → 0 < length ss → Stops (commandsOf ss)
   unfolding commandsOf
   steps-stop [] lawful some = absurd (omega arith)
-  steps-stop (s ∷ ss) lawful some = step-stops s (lawful .0) .at-once (commandsOf ss)
+  steps-stop (s ∷ ss) lawful some = stops-behind (expanded s) (commandsOf ss) (step-stops s (lawful .0))

@@ -5,9 +5,7 @@ use Prim.Native.Nat.{ℕ, zero, suc, _≤_}
 use native.Mathlib.Omega.{arith}
 use mathlib.Core.Bool.{true}
 use mathlib.Core.Path.{_≡_, refl, _∙_, ap, sym}
-use mathlib.Core.List.{List, [], _∷_, _++_, append-nil}
-use lib.ListN.{length, take}
-use lib.Seq.{take-all, take-at}
+use mathlib.Core.List.{List, [], _∷_, _++_}
 use Rattle.chip.specs.State.{Chip, Named, named, join}
 use Rattle.chip.specs.Names.{received, portsOpen}
 use Rattle.chip.specs.Palette.{coloured}
@@ -27,21 +25,22 @@ use Rattle.script_commands.proofs.Counted.{steps-split}
 use Rattle.script_commands.proofs.Expanding.{commands-append}
 use Rattle.script_commands.specs.declared.Command.{Command}
 use Rattle.script_commands.specs.declared.CommandRead.{CommandRead}
-use Rattle.chip_run.specs.Run.{Went, runFrom, altering, Ran, ranTo, handed, reads, ran, ofEnding}
-use Rattle.chip_run.proofs.RunLaws.{knowns, reads-bytes, run-append, run-commands, at-limit, Stands}
+use Rattle.chip_run.specs.Run.{Went, altering, Ran, ranTo, handed, reads, ran, ofEnding}
+use Rattle.chip_run.proofs.RunLaws.{reads-bytes, Stands}
 use Rattle.chip_run.specs.declared.Ending.the-variants.{Ended}
 use Rattle.chip_play.specs.ByName.{applied, appliedAll, stepsChanging}
 use Rattle.chip_play.specs.Demand3.{ranSteps, AfterSteps, Demand-3}
-use Rattle.chip_play.proofs.Sends.{Sends, Any, sends-append, sends-none, knowns-append}
+use Rattle.chip_play.proofs.Sends.{Goes, Sends, Is, sends-append, sends-none}
+use Rattle.chip_play.proofs.Running.{run-front, run-whole}
 use Rattle.chip_play.proofs.Reaching.{open-received, open-coloured}
-use Rattle.chip_play.proofs.StepsSent.{step-sent}
+use Rattle.chip_play.proofs.StepsSent.{indexesAfter, step-sent}
 
 -- ---- a list of legal steps
 abbrev pub AllLegal : List Step → Type 0
 AllLegal [] = Unit {0}
 AllLegal (s ∷ ss) = (legal s ≡ true) × AllLegal ss
 
-open-applied : (s : Step) (n : Named) → portsOpen (applied s n) ≡ portsOpen n
+pub open-applied : (s : Step) (n : Named) → portsOpen (applied s n) ≡ portsOpen n
 unfolding applied
 open-applied (Set g i v) n = open-received _ n i v
 open-applied (Field g i v m) n = open-received _ n i _
@@ -59,11 +58,17 @@ unfolding appliedAll
 picture-stays [] n = refl
 picture-stays (s ∷ ss) n = picture-stays ss (applied s n) ∙ picture-applied s n
 
-pub script-sent : (ss : List Step) (n : Named) → AllLegal ss → portsOpen n ≡ true → Sends Any n (commandsOf ss) (appliedAll ss n) Any (stepsChanging ss n)
+-- the indexes that steps leave
+abbrev pub indexesAfterAll : List Step → Indexes → Indexes
+indexesAfterAll [] y = y
+indexesAfterAll (s ∷ ss) y = indexesAfterAll ss (indexesAfter s y)
+
+pub script-sent : (ss : List Step) (n : Named) → AllLegal ss → portsOpen n ≡ true → (y : Indexes)
+    → Sends (Is y) n (commandsOf ss) (appliedAll ss n) (Is (indexesAfterAll ss y)) (stepsChanging ss n)
 unfolding commandsOf appliedAll stepsChanging
-script-sent [] n lawful free = sends-none n
-script-sent (s ∷ ss) n lawful free =
-    sends-append (step-sent s n (lawful .0) free) (script-sent ss (applied s n) (lawful .1) (open-applied s n ∙ free))
+script-sent [] n lawful free y = sends-none n
+script-sent (s ∷ ss) n lawful free y =
+    sends-append (step-sent s n (lawful .0) free y) (script-sent ss (applied s n) (lawful .1) (open-applied s n ∙ free) (indexesAfter s y))
 
 -- ---- the steps of an accepted file
 all-legal-append : (ss ts : List Step) → AllLegal ss → AllLegal ts → AllLegal (ss ++ ts)
@@ -78,30 +83,23 @@ steps-legal f m acc (suc n) room =
     all-legal-append (stepsTo f n) _ (steps-legal f m acc n (omega arith)) (rw (h .answer) (h .lawful, tt))
 
 -- ---- the run
-length-knowns : (cs : List Command) → length (knowns cs) ≡ length cs
-length-knowns [] = refl
-length-knowns (c ∷ cs) = ap suc (length-knowns cs)
-
 module _ (f : List ℕ) (m : ℕ) (acc : checked f ≡ Accepted m) (c : Chip) (free : portsOpen (named c) ≡ true) where
+  -- the commands of the first n steps go so far
+  pub steps-go : (n : ℕ) → n ≤ m → (x : Indexes) × (l : Loading) × (a : ℕ)
+      × Goes c 0 (commandsTo f n) (join (appliedAll (stepsTo f n) (named c)) x l) a (stepsChanging (stepsTo f n) (named c))
+  steps-go n room =
+      let (x, l, a, h, _) = script-sent (stepsTo f n) (named c) (steps-legal f m acc n room) free (c .indexes) .runs (c .indexes) (c .loading) 0 refl in
+      (x, l, a, h)
+
   -- the run up to the commands of the first n steps stands where these leave it, with as many changes as the steps make
   pub stands : (n : ℕ) → n ≤ m → (x : Indexes) × (l : Loading) × (w : Went)
       × (ranSteps c f m n ≡ handed (stepsChanging (stepsTo f n) (named c)) w) × Stands w (join (appliedAll (stepsTo f n) (named c)) x l) (begins f n)
   stands n room =
       let (rest, split) = steps-split f m n room in
-      let cs = commandsTo f n in
-      let (x, l, a, h, _) = script-sent (stepsTo f n) (named c) (steps-legal f m acc n room) free .runs (c .indexes) (c .loading) 0 tt in
-      let d : Chip = join (appliedAll (stepsTo f n) (named c)) x l in
-      let k : length (knowns cs) ≡ begins f n = length-knowns cs in
-      let parts : knowns (commandsTo f m) ≡ knowns cs ++ knowns (commandsOf rest) =
-      ap (λ (ss : List Step). knowns (commandsOf ss)) split ∙ ap knowns (commands-append (stepsTo f n) rest) ∙ knowns-append cs (commandsOf rest) in
-      let count : altering c 0 (take (begins f n) (knowns (commandsTo f m))) ≡ stepsChanging (stepsTo f n) (named c) =
-      ap (λ (rs : List CommandRead). altering c 0 (take (begins f n) rs)) parts
-      ∙ ap (altering c 0) (take-at (knowns cs) (knowns (commandsOf rest)) (begins f n) k) ∙ h .alters in
-      let w : Went = runFrom d a (begins f n) 0 (knowns (commandsOf rest)) in
-      let e : runFrom c 0 0 (begins f n) (knowns (commandsTo f m)) ≡ w =
-      ap (runFrom c 0 0 (begins f n)) parts
-      ∙ run-append (knowns cs) (knowns (commandsOf rest)) c d 0 a 0 (begins f n) (begins f n) 0 (omega arith) (omega arith) (h .ends) in
-      (x, l, w, run-commands c (commandsTo f m) (begins f n) ∙ ap (handed _) e ∙ ap (λ (j : ℕ). handed j w) count, at-limit d a (begins f n) (knowns (commandsOf rest)))
+      let (x, l, a, h) = steps-go n room in
+      let (w, e, s) = run-front c (commandsTo f n) (h .ends) (commandsOf rest) in
+      let parts : commandsTo f m ≡ commandsTo f n ++ commandsOf rest = ap commandsOf split ∙ commands-append (stepsTo f n) rest in
+      (x, l, w, ap (λ (cs : List Command). ran c (bytesOfAll cs) (begins f n)) parts ∙ e ∙ ap (λ (k : ℕ). handed k w) (h .alters), s)
 
   pub after-steps : (n : ℕ) → n ≤ m → AfterSteps c f m n
   after-steps n room =
@@ -117,20 +115,9 @@ module _ (f : List ℕ) (m : ℕ) (acc : checked f ≡ Accepted m) (c : Chip) (f
   pub whole-run : (x : Indexes) × (l : Loading)
       × (ran c (bytesOfAll (commandsTo f m)) (begins f m)
       ≡ ranTo (join (appliedAll (stepsTo f m) (named c)) x l) (begins f m) (altering c 0 (reads (bytesOfAll (commandsTo f m)))) Ended)
-  unfolding runFrom
   whole-run =
-      let cs = commandsTo f m in
-      let (x, l, a, h, _) = script-sent (stepsTo f m) (named c) (steps-legal f m acc m (omega arith)) free .runs (c .indexes) (c .loading) 0 tt in
-      let k : length (knowns cs) ≡ begins f m = length-knowns cs in
-      let all : take (begins f m) (knowns cs) ≡ reads (bytesOfAll cs) = take-all (begins f m) (knowns cs) (omega arith) ∙ sym (reads-bytes cs) in (
-        x,
-        l,
-        run-commands c cs (begins f m)
-            ∙ ap (λ (rs : List CommandRead). handed (altering c 0 rs) (runFrom c 0 0 (begins f m) (knowns cs))) all
-            ∙ ap (handed (altering c 0 (reads (bytesOfAll cs))))
-            (ap (runFrom c 0 0 (begins f m)) (sym (append-nil (knowns cs)))
-            ∙ run-append (knowns cs) [] c (join (appliedAll (stepsTo f m) (named c)) x l) 0 a 0 (begins f m) (begins f m) 0 (omega arith) (omega arith) (h .ends)),
-      )
+      let (x, l, a, h) = steps-go m (omega arith) in
+      (x, l, run-whole c (commandsTo f m) (h .ends) ∙ ap (λ (rs : List CommandRead). ranTo (join (appliedAll (stepsTo f m) (named c)) x l) (begins f m) (altering c 0 rs) Ended) (sym (reads-bytes (commandsTo f m))))
 
 -- ---- the theorem
 pub demand-3 : Demand-3

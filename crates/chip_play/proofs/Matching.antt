@@ -20,7 +20,8 @@ use Rattle.chip_run.specs.View.{viewRan}
 use Rattle.chip_run.proofs.RunLaws.{run-keeps}
 use Rattle.chip_run.specs.declared.Ran.{Ran as KeptRan}
 use Rattle.chip_play.specs.Matching.{Act, Reset, Write, Read, Run, Play, Said, Nothing, Wrote, Saw, Ran, Became, Gave, gives, gave, KeptGave, KeptAll, none, next, saidBy, leftBy, SmallerState}
-use Rattle.script_commands.specs.Translation.{translated}
+use Rattle.script.specs.File.{stepCount}
+use Rattle.script_commands.specs.Translation.{commandsTo, translated}
 use Rattle.script_commands.specs.declared.Translated.{Translated}
 use Rattle.script_commands.specs.declared.Translated.the-variants.{Commands, Refused}
 use Rattle.chip_play.specs.Played.{Performance, afterTranslation, played}
@@ -80,7 +81,7 @@ act-rowable (Read p) c r = read-rowable c p r
 act-rowable (Run bytes limit) c r = run-keeps (λ d. Rowable (named d)) written-rowable read-rowable c bytes limit r
 act-rowable (Play file room) c r = go (translated file room)
   where
-    go : (t : Translated) → Rowable (named (afterTranslation t c file .chip))
+    go : (t : Translated) → Rowable (named (afterTranslation t (commandsTo file (stepCount file)) c .chip))
     go (Commands k) = run-keeps (λ d. Rowable (named d)) written-rowable read-rowable c _ k r
     go (Refused why) = r
 

@@ -64,6 +64,10 @@ pub record Sends (P : Indexes → Type 0) (n : Named) (cs : List Command) (m : N
 abbrev pub Any : Indexes → Type 0
 Any x = Unit {0}
 
+-- these indexes and no others
+abbrev pub Is : Indexes → Indexes → Type 0
+Is y x = x ≡ y
+
 -- the group's index is i
 abbrev pub At : Group → ℕ → Indexes → Type 0
 At g i x = indexOf g x ≡ i
@@ -109,7 +113,7 @@ sends-any s = record { runs = λ x l a p. let (x′, l′, a′, h, q) = s .runs
 
 -- ---- what each kind of command does
 module _ (n : Named) (x : Indexes) (l : Loading) (a : ℕ) (free : portsOpen n ≡ true) (b : Bool) (picks : picks3Dx n ≡ b) (p : ℕ) where
-  select : (g : Group) (i : ℕ) → target b true p ≡ Index g → one (join n x l) a (Known (Out p i)) ≡ did Done a (join n (withIndex g x i) l)
+  pub select : (g : Group) (i : ℕ) → target b true p ≡ Index g → one (join n x l) a (Known (Out p i)) ≡ did Done a (join n (withIndex g x i) l)
   unfolding one done portWritten
   select g i h = rw (free, picks, h)
 
@@ -128,7 +132,7 @@ module _ (n : Named) (x : Indexes) (l : Loading) (a : ℕ) (free : portsOpen n �
   unfolding one done portRead
   fetch g i e h = rw (free, picks, h, e)
 
-  idle : (v : ℕ) → target b true p ≡ NotPicked → one (join n x l) a (Known (Out p v)) ≡ did Done a (join n x l)
+  pub idle : (v : ℕ) → target b true p ≡ NotPicked → one (join n x l) a (Known (Out p v)) ≡ did Done a (join n x l)
   unfolding one done portWritten
   idle v h = rw (free, picks, h)
 

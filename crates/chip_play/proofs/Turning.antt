@@ -25,7 +25,7 @@ use Rattle.script_commands.specs.declared.Command.the-variants.{Out, In, OutAcc
 use Rattle.script_commands.specs.declared.CommandRead.the-variants.{Known}
 use Rattle.chip_run.specs.Run.{did, one, done}
 use Rattle.chip_run.specs.declared.Verdict.the-variants.{Done}
-use Rattle.chip_play.proofs.Sends.{Goes, once, quietly, lastly, ended, Sends, Any, At, idle-in, fetch, merged}
+use Rattle.chip_play.proofs.Sends.{Goes, once, quietly, lastly, ended, Sends, Is, idle-in, fetch, merged}
 
 -- ---- the index that is written: bit 5 of the one that was read, and the register's
 keep-bit : (lit : Bool) (low i : ℕ) → low < 32 → i < 32 → bitOr (bitAnd (low + cond lit 0x20 0x00) 0x20) i ≡ cond lit 0x20 0x00 + i
@@ -70,9 +70,9 @@ module _ (n : Named) (x : Indexes) (l : Loading) (a : ℕ) (free : portsOpen n �
     unfolding one done portWritten
     give-acc = rw (free, picks, leads, turn, at)
 
--- the attribute index is i, and data comes next
-abbrev pub AtData : ℕ → Indexes → Type 0
-AtData i x = At Ar i x × (x .turn ≡ true)
+low-five : (x : Indexes) → indexOf Ar x < 32
+unfolding indexKept
+low-five x = omega arith
 
 module _ (n : Named) (free : portsOpen n ≡ true) where
   -- both status ports are read: the turn is the index's
@@ -92,36 +92,48 @@ module _ (n : Named) (free : portsOpen n ≡ true) where
     aimed x l =
         aim-acc n (withTurn x false) l _ free b picks p writes refl ∙ rw (kept-picture (n .picture) i fits, kept-low (n .picture) i) refl
 
-    pub aims : target b false p ≡ Attribute → Sends Any n (turned p i) n (AtData i) 0
-    unfolding indexKept
-    aims reads = record {
-      runs = λ x l a _. (
+    pub aims : target b false p ≡ Attribute → (y : Indexes) → Sends (Is y) n (turned p i) n (Is (withTurn (withIndex Ar y i) true)) 0
+    aims reads y = record {
+      runs = λ x l a h. (
         withTurn (withIndex Ar x i) true,
         l,
         cond (n .picture) 0x20 0x00 + i,
         both-read b picks x l a _ _ _ _
             (quietly (see-index n (withTurn x false) l _ free b picks p reads) refl
-            (quietly (merged (join n (withTurn x false) l) _ 0x20 i ∙ ap (λ (v : ℕ). did Done v (join n (withTurn x false) l)) (keep-bit (n .picture) (indexOf Ar x) i (omega arith) fits)) refl
+            (quietly (merged (join n (withTurn x false) l) _ 0x20 i ∙ ap (λ (v : ℕ). did Done v (join n (withTurn x false) l)) (keep-bit (n .picture) (indexOf Ar x) i (low-five x) fits)) refl
             (quietly (aimed x l) refl ended))),
-        (omega arith, refl),
+        ap (λ (t : Indexes). withTurn (withIndex Ar t i) true) h,
       );
     }
 
-    -- then a byte, or a change
-    pub gives : (v : ℕ) → Sends (AtData i) n (Out p v ∷ []) (received Ar n i v) (At Ar i) (once n (received Ar n i v))
-    gives v = record {
-      runs = λ x l a h. (withTurn x false, l, a, lastly (give n x l a free b picks p writes (h .1) i (h .0) v), h .0);
-    }
+    -- then a byte, or a change, where the index is the register's and data comes next
+    module _ (y : Indexes) (at : indexOf Ar y ≡ i) (turn : y .turn ≡ true) where
+      at-index : (x : Indexes) → Is y x → indexOf Ar x ≡ i
+      at-index x h = ap (indexOf Ar) h ∙ at
 
-    pub gives-change : (r k s : ℕ) → target b false r ≡ Data Ar
-        → (let m = received Ar n i (bitOr (bitAnd (readByte Ar n i) k) s) in Sends (AtData i) n (change p r k s) m (At Ar i) (once n m))
-    gives-change r k s reads = record {
-      runs = λ x l a h. (
-        withTurn x false,
-        l,
-        _,
-        quietly (fetch n x l a free b picks r Ar i (h .0) reads) refl
-            (quietly (merged (join n x l) _ k s) refl (lastly (give-acc n x l _ free b picks p writes (h .1) i (h .0)))),
-        h .0,
-      );
-    }
+      at-turn : (x : Indexes) → Is y x → x .turn ≡ true
+      at-turn x h = ap (λ (t : Indexes). t .turn) h ∙ turn
+
+      pub gives : (v : ℕ) → Sends (Is y) n (Out p v ∷ []) (received Ar n i v) (Is (withTurn y false)) (once n (received Ar n i v))
+      gives v = record {
+        runs = λ x l a h. (
+          withTurn x false,
+          l,
+          a,
+          lastly (give n x l a free b picks p writes (at-turn x h) i (at-index x h) v),
+          ap (λ (t : Indexes). withTurn t false) h,
+        );
+      }
+
+      pub gives-change : (r k s : ℕ) → target b false r ≡ Data Ar
+          → (let m = received Ar n i (bitOr (bitAnd (readByte Ar n i) k) s) in Sends (Is y) n (change p r k s) m (Is (withTurn y false)) (once n m))
+      gives-change r k s reads = record {
+        runs = λ x l a h. (
+          withTurn x false,
+          l,
+          _,
+          quietly (fetch n x l a free b picks r Ar i (at-index x h) reads) refl
+              (quietly (merged (join n x l) _ k s) refl (lastly (give-acc n x l _ free b picks p writes (at-turn x h) i (at-index x h)))),
+          ap (λ (t : Indexes). withTurn t false) h,
+        );
+      }

@@ -1,10 +1,11 @@
 // A script file played on a chip: translated into a lent buffer and run whole. Demand 3 is said in
 // specs/Demand3 and proved in proofs/Demand3; the entry here carries it.
 ghost use mathlib.Core.Path.{_≡_};
+ghost use Prim.Native.Nat.{_*_, min};
 ghost use lib.ListN.{length};
 ghost use Rattle.chip.specs.View.{view};
 ghost use Rattle.script_commands.specs.Translation.{translated, leftBy};
-ghost use Rattle.chip_play.specs.Played.{played, ByName, ofOutcome, playTable};
+ghost use Rattle.chip_play.specs.Played.{runBy, played, ByName, ofOutcome, playTable};
 ghost use Rattle.chip_play.specs.View.{viewPerformance};
 use chip::Chip;
 use chip_run::Ending;
@@ -26,20 +27,27 @@ pub struct Performance {
     pub outcome: Outcome,
 }
 
-// A script file on a chip. The buffer is lent for the commands, 32 bytes a step.
-pub fn play(chip: Chip, file: &[u8], buffer: &mut [u8]) -> Performance
-    ensures { λ r. ⌜ viewPerformance r ≡ played (view chip) (now (file .entry)) (length (now (buffer .entry))) ⌝ }
-    ensures { λ r. ⌜ ByName (view chip) (now (file .entry)) (length (now (buffer .entry))) (viewPerformance r) ⌝ }
-    ensures { λ _. ⌜ now (buffer .exit) ≡ leftBy (translated (now (file .entry)) (length (now (buffer .entry)))) (now (file .entry)) (now (buffer .entry)) ⌝ }
-    ensures { λ r. ⌜ ofOutcome (r .outcome) ≡ playTable (view chip) (now (file .entry)) (length (now (buffer .entry))) ⌝ }
+// Where k commands in front of a buffer end, or the buffer does.
+fn front(size: usize, k: usize) -> usize
+    ensures { λ r. ⌜ r ≡ min (4 * k) size ⌝ }
 {
-    match translate(file, buffer) {
+    if size / 4 < k {
+        return size;
+    }
+    4 * k
+}
+
+// What a translation answered, played: its commands, which stand in front of a buffer, are run whole.
+pub fn run_by(chip: Chip, buffer: &[u8], translated: Translated) -> Performance
+    ensures { λ r. ⌜ viewPerformance r ≡ runBy translated (view chip) (now (buffer .entry)) ⌝ }
+{
+    match translated {
         Translated::Refused(why) => Performance {
             chip,
             outcome: Outcome::NotPlayed(why),
         },
         Translated::Commands(k) => {
-            let end = 4 * k;
+            let end = front(buffer.len(), k);
             let ran = run(chip, &buffer[..end], k);
             let next = ran.chip;
             let ending = ran.ending;
@@ -49,4 +57,15 @@ pub fn play(chip: Chip, file: &[u8], buffer: &mut [u8]) -> Performance
             }
         }
     }
+}
+
+// A script file on a chip. The buffer is lent for the commands, 32 bytes a step.
+pub fn play(chip: Chip, file: &[u8], buffer: &mut [u8]) -> Performance
+    ensures { λ r. ⌜ viewPerformance r ≡ played (view chip) (now (file .entry)) (length (now (buffer .entry))) ⌝ }
+    ensures { λ r. ⌜ ByName (translated (now (file .entry)) (length (now (buffer .entry)))) (view chip) (now (file .entry)) (viewPerformance r) ⌝ }
+    ensures { λ _. ⌜ now (buffer .exit) ≡ leftBy (translated (now (file .entry)) (length (now (buffer .entry)))) (now (file .entry)) (now (buffer .entry)) ⌝ }
+    ensures { λ r. ⌜ ofOutcome (r .outcome) ≡ playTable (view chip) (now (file .entry)) (length (now (buffer .entry))) ⌝ }
+{
+    let answer = translate(file, buffer);
+    run_by(chip, buffer, answer)
 }

@@ -105,6 +105,11 @@ number-few Msr = omega arith
 number-few Palmask = omega arith
 number-few Ar = omega arith
 
+-- .. and a group's number is the one that it is named by
+pub number-grouped : (k : ℕ) → k < 9 → numberOf (groupAt k) ≡ k
+unfolding groupAt every
+number-grouped k h = eqb-true _ _ (every-at (λ j. eqb (numberOf (groupAt j)) j) 0 9 refl k (omega arith) (omega arith))
+
 -- what is tested of the group of each number holds of every group
 pub every-group : (t : Group → Bool) → every (λ k. t (groupAt k)) 0 9 ≡ true → (g : Group) → t g ≡ true
 every-group t e g =

@@ -36,4 +36,4 @@ bufferLeft l file buffer = cond (isState l) (leftBy (translated file (length buf
 -- by name: what became of the script, and the chip that the bytes hold now, are what crate `chip_play` promises of the chip that
 -- they held
 pub record ByNameIn (l file : List ℕ) (room : ℕ) (m : List ℕ) (r : LentPlayed) : Type 0 where
-  pub byName : length l ≡ whole → (o : Outcome) → r ≡ Met o → ByName (view l) file room (record { chip = view m; outcome = o })
+  pub byName : length l ≡ whole → (o : Outcome) → r ≡ Met o → ByName (translated file room) (view l) file (record { chip = view m; outcome = o })

@@ -3,6 +3,7 @@
 -- the same, and so they were between any two steps: a step sends its index to all index ports of its group and nothing to those of
 -- others (`sent-own`, `sent-other`). By the way a group is reached, once over the groups.
 use Prim.Native.Nat.{ℕ, zero, suc, _-_, _<_, _≤_}
+use native.Mathlib.Decide.{ℕ-discrete}
 use native.Mathlib.Omega.{arith}
 use mathlib.Core.Bool.{Bool, true, false, cond, _&&_}
 use mathlib.Core.Path.{_≡_, refl, sym, ap, _∙_}
@@ -43,7 +44,7 @@ Owns g (Pairs x p y q) =
     (isIndexPort x ≡ true) × (isIndexPort p ≡ false) × (isIndexPort y ≡ true) × (isIndexPort q ≡ false)
     × (owner x ≡ g) × (owner p ≡ 9) × (owner y ≡ g) × (owner q ≡ 9) × (g < 9) × (eqb x y ≡ false) × (eqb y x ≡ false)
 Owns g (Direct w r) = (isIndexPort w ≡ false) × (owner w ≡ 9)
-Owns g (Turns p r) = (isIndexPort p ≡ false) × (owner p ≡ 9)
+Owns g (Turns p r) = (isIndexPort p ≡ false) × (owner p ≡ 9) × (g < 9)
 Owns g Nowhere = Unit {0}
 
 pub ways-none : (g : ℕ) → 9 ≤ g → ways g ≡ Nowhere
@@ -71,7 +72,7 @@ owns (suc (suc (suc (suc zero)))) = (refl, refl, refl, refl, omega arith)
 owns (suc (suc (suc (suc (suc zero))))) = (refl, refl, refl, refl, omega arith)
 owns (suc (suc (suc (suc (suc (suc zero)))))) = (refl, refl)
 owns (suc (suc (suc (suc (suc (suc (suc zero))))))) = (refl, refl)
-owns (suc (suc (suc (suc (suc (suc (suc (suc zero)))))))) = (refl, refl)
+owns (suc (suc (suc (suc (suc (suc (suc (suc zero)))))))) = (refl, refl, omega arith)
 owns (suc (suc (suc (suc (suc (suc (suc (suc (suc g))))))))) = rw (ways-none (suc (suc (suc (suc (suc (suc (suc (suc (suc g))))))))) (omega arith)) tt
 
 -- whether a way's index ports were last sent i, which is one answer for both ports of CR
@@ -93,7 +94,7 @@ module _ (g : ℕ) (i : ℕ) (before : List Command) where
   set-short (Pairs x p y q) false v (ix, ip, iy, iq, ox, op, oy, oq, low, xy, yx) (r, t) =
       let yp : eqb y p ≡ false = apart y p (λ e. omega arith) in rw (ix, ip, iy, iq, r, yp, yx, t)
   set-short (Direct w r) z v (iw, ow) h = rw iw
-  set-short (Turns p r) z v (ip, op) h = rw ip
+  set-short (Turns p r) z v (ip, op, low) h = rw ip
   set-short Nowhere z v o h = refl
 
   field-short : (w : Ways) (z : Bool) (k s : ℕ) → Owns g w → Recalled w z i before → shortened before (fieldBy w i k s) ≡ fieldKnown z w i k s
@@ -161,7 +162,7 @@ module _ (i j : ℕ) (before : List Command) where
         let ap : eqb a p ≡ false = apart a p (λ e. omega arith) in
         let aq : eqb a q ≡ false = apart a q (λ e. omega arith) in rw (aq, ay, ap, ax)
     set-elsewhere g (Direct w r) v (iw, ow) other = let aw : eqb a w ≡ false = apart a w (λ e. omega arith) in rw aw
-    set-elsewhere g (Turns p r) v (ip, op) other = let ap : eqb a p ≡ false = apart a p (λ e. omega arith) in rw ap
+    set-elsewhere g (Turns p r) v (ip, op, small) other = let ap : eqb a p ≡ false = apart a p (λ e. omega arith) in rw ap
     set-elsewhere g Nowhere v o other = refl
 
     field-elsewhere : (g : ℕ) (w : Ways) (k s : ℕ) → Owns g w → (owner a ≡ g → ⊥) → lastSent a j (past before (fieldBy w i k s)) ≡ lastSent a j before
@@ -175,7 +176,7 @@ module _ (i j : ℕ) (before : List Command) where
         let ap : eqb a p ≡ false = apart a p (λ e. omega arith) in
         let aq : eqb a q ≡ false = apart a q (λ e. omega arith) in rw (aq, ay, ap, ax)
     field-elsewhere g (Direct w r) k s (iw, ow) other = let aw : eqb a w ≡ false = apart a w (λ e. omega arith) in rw aw
-    field-elsewhere g (Turns p r) k s (ip, op) other = let ap : eqb a p ≡ false = apart a p (λ e. omega arith) in rw ap
+    field-elsewhere g (Turns p r) k s (ip, op, small) other = let ap : eqb a p ≡ false = apart a p (λ e. omega arith) in rw ap
     field-elsewhere g Nowhere k s o other = refl
 
 -- ---- the same of steps
@@ -184,6 +185,11 @@ abbrev pub OfGroup : Step → ℕ → Type 0
 OfGroup (Set group i v) g = group ≡ g
 OfGroup (Field group i v m) g = group ≡ g
 OfGroup (Colour e r c b) g = ⊥
+
+pub is-group : (s : Step) (g : ℕ) → Dec (OfGroup s g)
+is-group (Set k i v) g = ℕ-discrete k g
+is-group (Field k i v m) g = ℕ-discrete k g
+is-group (Colour e r c b) g = no (λ h. h)
 
 -- the index ports of a step's group were last sent its index
 pub sent-own : (s : Step) (g j : ℕ) (before : List Command) → OfGroup s g → Recalled (ways g) (eqb j (indexIn s)) j (past before (expanded s))

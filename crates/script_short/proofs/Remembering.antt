@@ -23,12 +23,11 @@ use Rattle.script_commands.specs.Known.{expandedKnown}
 use Rattle.script_commands.specs.Translation.{commandsTo}
 use Rattle.script_commands.specs.declared.Command.{Command}
 use Rattle.script_commands.proofs.Codec.{bytes-append, length-bytes}
-use Rattle.script_commands.proofs.Expanding.{begins-most}
 use Rattle.script_commands.proofs.Knowing.{known-most}
 use Rattle.script_short.specs.Short.{shortTo}
 use Rattle.script_short.specs.Memory.{slot, slotIn, indexIn, knows, minded}
-use Rattle.script_short.proofs.ShortLaws.{past, short-shorter, short-start, past-start, short-next, past-next}
-use Rattle.script_short.proofs.Recalling.{Recalled, RecalledFor, OfGroup, ways-none, short-step, sent-own, recalled-other, recalled-none}
+use Rattle.script_short.proofs.ShortLaws.{past, short-most, short-start, past-start, short-next, past-next}
+use Rattle.script_short.proofs.Recalling.{Recalled, RecalledFor, OfGroup, is-group, ways-none, short-step, sent-own, recalled-other, recalled-none}
 
 -- what is kept in mind is what each group's index ports were last sent
 pub record Remembers (last : List ℕ) (before : List Command) : Type 0 where
@@ -96,11 +95,6 @@ same-slot (Set k i v) g is = ap slot is
 same-slot (Field k i v m) g is = ap slot is
 same-slot (Colour e r c b) g is = absurd is
 
-is-group : (s : Step) (g : ℕ) → Dec (OfGroup s g)
-is-group (Set k i v) g = ℕ-discrete k g
-is-group (Field k i v m) g = ℕ-discrete k g
-is-group (Colour e r c b) g = no (λ h. h)
-
 module _ (last : List ℕ) (before : List Command) (h : Remembers last before) (s : Step) where
   says-next : (g j : ℕ) → Recalled (ways g) (eqb (getD (minded last s) (slot g) 0) (j + 1)) j (past before (expanded s))
   says-next g j = go (is-group s g) (decLt g 9)
@@ -141,7 +135,7 @@ module _ (f o : List ℕ) (n : ℕ) (s : Step) (last : List ℕ) (is : nextOf f 
       → Added o₁ e₁ (cond (ltb (length o₁) (e₁ + 32)) [] (bytesOfAll (expandedKnown known s))) o₂ e₂ → length o₁ ≡ length o → 32 * n + 32 ≤ length o
       → Added o 0 (bytesOfAll (shortTo f (n + 1))) o₂ e₂ × (length o₂ ≡ length o)
   short-added {o₁} {o₂} {e₁} {e₂} {known} so-far gave put same room =
-      let most : e₁ ≤ 32 * n = omega (arith, so-far .next, length-bytes (shortTo f n), short-shorter f n, begins-most f n) in
+      let most : e₁ ≤ 32 * n = omega (arith, so-far .next, length-bytes (shortTo f n), short-most f n) in
       let fits : e₁ + 32 ≤ length o₁ = omega arith in
       let more : Added o₁ e₁ (bytesOfAll (expandedKnown (knows last s) s)) o₂ e₂ = rw (← gave) (rw (le-ltb _ _ fits) at put) in
       let end : e₂ ≤ length o = omega (arith, more .next, length-bytes (expandedKnown (knows last s) s), known-most (knows last s) s) in

@@ -1,7 +1,7 @@
 -- Laws of the short list. What is left out is counted, so it is never longer than the plain list (`short-length`); a list of two
 -- parts is shortened part by part, the second behind the first (`short-append`); 3C8h and 3C0h always stay (`palette-stays`,
 -- `attribute-stays`), and a first command too (`first-stays`).
-use Prim.Native.Nat.{ℕ, suc, _+_, _≤_}
+use Prim.Native.Nat.{ℕ, suc, _+_, _*_, _≤_}
 use native.Mathlib.Omega.{arith}
 use mathlib.Core.Bool.{Bool, true, false, cond, _&&_}
 use mathlib.Core.Path.{_≡_, refl, sym, ap, _∙_}
@@ -52,6 +52,9 @@ short-length before (c ∷ cs) = go (leftOut before c) (short-length (c ∷ befo
 
 pub short-shorter : (f : List ℕ) (n : ℕ) → shortBegins f n ≤ begins f n
 short-shorter f n = omega (arith, short-length [] (commandsTo f n))
+
+pub short-most : (f : List ℕ) (n : ℕ) → shortBegins f n ≤ 8 * n
+short-most f n = omega (arith, short-shorter f n, begins-most f n)
 
 -- ---- what always stays
 pub palette-stays : (before : List Command) (v : ℕ) → leftOut before (Out 0x3C8 v) ≡ false

@@ -17,7 +17,7 @@ use Rattle.lists.proofs.Scan.{every-at}
 use Rattle.chip_registers.specs.Groups.{numberOf, groupAt, isIndexed}
 use Rattle.chip_registers.specs.Indexes.{indexBits, indexKept}
 use Rattle.chip_registers.specs.declared.Group.{Group}
-use Rattle.chip_registers.proofs.TableLaws.{group-numbered, number-few, every-group}
+use Rattle.chip_registers.proofs.TableLaws.{group-numbered, number-few, number-grouped, every-group}
 use Rattle.chip.specs.State.{Chip, Named, named, withPicture, indexByte}
 use Rattle.chip.specs.Names.{register, received}
 use Rattle.chip.specs.Palette.{entry, coloured}
@@ -31,12 +31,7 @@ use Rattle.text_changes.specs.Changes.{registerChange, indexes, register
 use Rattle.text_changes.proofs.Lengths.{register-most, colour-most}
 use Rattle.text_changes.proofs.Telling.{register-kept, colour-kept, group-silent, groups-silent, colours-silent, changed-silent, changed-none}
 
--- ---- groups by number, and the indexes of each
-number-grouped : (k : ℕ) → k < 9 → numberOf (groupAt k) ≡ k
-unfolding groupAt every
-number-grouped k h =
-    eqb-true _ _ (every-at (λ j. eqb (numberOf (groupAt j)) j) 0 9 refl k (omega arith) (omega arith))
-
+-- ---- the indexes of each group
 -- an index that a group has is the register's place in its bank
 place-index : (g : Group) (i : ℕ) → i < indexes (numberOf g) → place g i ≡ i
 unfolding indexes groupAt every
