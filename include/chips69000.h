@@ -23,7 +23,7 @@ extern "C" {
 
 /* The version of the library, which rises wherever a C program can see a change, and of the bytes of a state, which rises wherever
  * the meaning of a byte changes. Keep the second beside bytes that are saved, and compare it when they come back. */
-#define CHIPS69000_VERSION 3
+#define CHIPS69000_VERSION 4
 #define CHIPS69000_STATE_VERSION 2
 
 /* The bytes of a state, and of the part's whole video memory. */
@@ -105,6 +105,12 @@ uint8_t chips69000_write_script(const uint8_t *steps, size_t steps_length, uint8
 /* A script file translated into four-byte commands. The value is their number, or what the number says. */
 uint8_t chips69000_translate_script(const uint8_t *file, size_t file_length, uint8_t *commands, size_t commands_length,
                                     size_t *value);
+
+/* The same file translated into a shorter list, without the writes to index ports that send what the last write to the same port
+ * sent. After each step registers, colours and everything else of a state are as with the plain list; numbers and room, 32 bytes
+ * a step, are the same. A step's commands may begin with its data: the list counts on being run from its first command on. */
+uint8_t chips69000_translate_short(const uint8_t *file, size_t file_length, uint8_t *commands, size_t commands_length,
+                                   size_t *value);
 
 /* Commands run on a state, up to a limit. The count is of those carried out; the place is that of a refused one. Changing is how
  * many of those carried out changed a register or a colour: after it a register of any group, or what an entry of the palette

@@ -15,7 +15,7 @@ use Rattle.lent_play.specs.declared.LentPlayed.the-variants.{Met, Length as Pla
 
 -- which library this is: one more wherever a C program can see a change
 abbrev pub libraryVersion : ℕ
-libraryVersion = 3
+libraryVersion = 4
 
 -- what the bytes of a state mean: one more wherever the meaning of a byte changes. 1 had a table of 256 for each group; 2 has the
 -- row of the listed registers (document 02, P7)

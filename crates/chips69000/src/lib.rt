@@ -27,7 +27,7 @@ pub mod video;
 pub extern "C" fn chips69000_version() -> u32
     ensures { λ r. ⌜ r ≡ libraryVersion ⌝ }
 {
-    3
+    4
 }
 
 // The version of the bytes of a state: document 02, P7.

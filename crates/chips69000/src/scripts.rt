@@ -1,12 +1,13 @@
-// Scripts and their commands: checking a file, writing one from a list of steps, translating one into
-// commands, the run on the state, and a file played whole. Document 01, "Scripts" and "Commands". The value beside the number is
-// written to a place that the caller lends; it is 0 where document 01 says "nothing more".
+// Scripts and their commands: checking a file, writing one from a list of steps, translating one into commands and into a shorter
+// list of them, the run on the state, and a file played whole. Document 01, "Scripts" and "Commands". The value beside the number
+// is written to a place that the caller lends; it is 0 where document 01 says "nothing more".
 ghost use mathlib.Core.Path.{_≡_};
 ghost use lib.ListN.{length};
 ghost use Rattle.script.specs.File.{checked};
 ghost use Rattle.script.specs.Numbers.{ofRefusal, ofChecked};
 ghost use Rattle.script_writer.specs.Write.{written, ofWritten, leftBy as listLeftBy};
 ghost use Rattle.script_commands.specs.Translation.{translated, ofTranslated, leftBy};
+ghost use Rattle.script_short.specs.Short.{shortTranslated, shortLeftBy};
 ghost use Rattle.chip_run.specs.Run.{ran, ofEnding, reasonNumber};
 ghost use Rattle.chip_play.specs.Played.{played, ofOutcome};
 ghost use Rattle.lent_chip.specs.Layout.{view, spare};
@@ -26,6 +27,7 @@ use script::Refusal;
 use script::check_file;
 use script_commands::Translated;
 use script_commands::translate;
+use script_short::translate_short;
 use script_writer::Written;
 
 // A number and its value.
@@ -164,6 +166,22 @@ pub extern "C" fn chips69000_translate_script(
     ensures { λ _. ⌜ now (commands .exit) ≡ leftBy (translated (now (file .entry)) (length (now (commands .entry)))) (now (file .entry)) (now (commands .entry)) ⌝ }
 {
     let t = of_translated(translate(file, commands));
+    *value = t.value;
+    t.number
+}
+
+// A script file translated into the shorter list of commands: document 02, P8. The value is as for the plain list.
+#[no_mangle]
+pub extern "C" fn chips69000_translate_short(
+    file: &[u8],
+    commands: &mut [u8],
+    value: &mut usize,
+) -> u8
+    ensures { λ r. ⌜ r ≡ ofTranslated (shortTranslated (now (file .entry)) (length (now (commands .entry)))) .number ⌝ }
+    ensures { λ _. ⌜ now (value .exit) ≡ ofTranslated (shortTranslated (now (file .entry)) (length (now (commands .entry)))) .value ⌝ }
+    ensures { λ _. ⌜ now (commands .exit) ≡ shortLeftBy (shortTranslated (now (file .entry)) (length (now (commands .entry)))) (now (file .entry)) (now (commands .entry)) ⌝ }
+{
+    let t = of_translated(translate_short(file, commands));
     *value = t.value;
     t.number
 }

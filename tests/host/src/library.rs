@@ -26,6 +26,9 @@ mod raw {
         pub fn chips69000_translate_script(
             file: *const u8, file_length: usize, commands: *mut u8, commands_length: usize, value: *mut usize,
         ) -> u8;
+        pub fn chips69000_translate_short(
+            file: *const u8, file_length: usize, commands: *mut u8, commands_length: usize, value: *mut usize,
+        ) -> u8;
         pub fn chips69000_step_commands(file: *const u8, file_length: usize, step: usize, value: *mut usize) -> u8;
         #[allow(clippy::too_many_arguments)]
         pub fn chips69000_run(
@@ -152,6 +155,14 @@ pub fn translate_script(file: &[u8], commands: &mut [u8]) -> (u8, usize) {
     let mut value = usize::MAX;
     let r = unsafe {
         raw::chips69000_translate_script(file.as_ptr(), file.len(), commands.as_mut_ptr(), commands.len(), &mut value)
+    };
+    (r, value)
+}
+
+pub fn translate_short(file: &[u8], commands: &mut [u8]) -> (u8, usize) {
+    let mut value = usize::MAX;
+    let r = unsafe {
+        raw::chips69000_translate_short(file.as_ptr(), file.len(), commands.as_mut_ptr(), commands.len(), &mut value)
     };
     (r, value)
 }

@@ -1,7 +1,8 @@
 //! The library compared with an independent model, from fixed seeds: resets, port accesses, colours, registers by name, runs of
-//! commands, bytes of video memory and transfers, steps that are refused, scripts whole and damaged, scripts played, and bytes that
-//! are no state. Of a write the whole word is compared, with the bytes before and after; of a run and a play also how many
-//! commands changed a register or a colour. A failure prints the input that differs, and the status is not 0.
+//! commands, bytes of video memory and transfers, steps that are refused, scripts whole and damaged, scripts played, shorter
+//! lists after each step, and bytes that are no state. Of a write the whole word is compared, with the bytes before and after; of
+//! a run and a play also how many commands changed a register or a colour. A failure prints the input that differs, and the
+//! status is not 0.
 
 mod library;
 mod model;
@@ -47,6 +48,9 @@ fn expect<T: PartialEq + std::fmt::Debug>(input: &str, library: T, model: T) {
 }
 
 fn expect_bytes(input: &str, library: &[u8], model: &[u8]) {
+    if library == model {
+        return;
+    }
     expect(&format!("{input}: length"), library.len(), model.len());
     if let Some(k) = (0..library.len()).find(|&k| library[k] != model[k]) {
         expect(&format!("{input}: byte {k}"), library[k], model[k]);
@@ -521,8 +525,23 @@ fn singles(rows: &Rows, r: &mut Random) -> [usize; 2] {
     [tried, tally.idle]
 }
 
-/// These lists written, and as files checked, translated and played, by the library and by the model: the number and the step are the
-/// ones that are due, also where the output is too small, and a refusal changes no byte of the file, the commands or the state.
+/// A file translated into the shorter list, into these bytes, beside what the plain translation answers: the same number, and the
+/// same value where it is refused, else as many commands or fewer. How many fewer.
+fn shortened(rows: &Rows, input: &str, file: &[u8], mut out: Vec<u8>, plain: (u8, usize)) -> usize {
+    let mut kept = out.clone();
+    let short = library::translate_short(file, &mut out);
+    expect(input, short, script::translate_short(rows, file, &mut kept));
+    expect_bytes(input, &out, &kept);
+    expect(&format!("{input}: beside the plain list"), (short.0, short.1 <= plain.1), (plain.0, true));
+    if short.0 != 0 {
+        expect(&format!("{input}: refused"), short, plain);
+    }
+    plain.1 - short.1
+}
+
+/// These lists written, and as files checked, translated, shortened and played, by the library and by the model: the number and
+/// the step are the ones that are due, also where the output is too small, and a refusal changes no byte of the file, the commands
+/// or the state.
 fn judged(rows: &Rows, r: &mut Random) -> usize {
     for (k, (steps, number, place)) in cases().iter().enumerate() {
         let list = steps.concat();
@@ -541,9 +560,10 @@ fn judged(rows: &Rows, r: &mut Random) -> usize {
         }
         for room in [32 * steps.len() + 7, 0] {
             let mut out: Vec<u8> = (0..room).map(|_| r.byte()).collect();
-            let mut kept = out.clone();
+            let (mut kept, held) = (out.clone(), out.clone());
             let translated = library::translate_script(&file, &mut out);
             expect(&format!("{input}: translated"), translated, script::translate(rows, &file, &mut kept));
+            shortened(rows, &format!("{input}: shortened"), &file, held, translated);
             expect(&format!("{input}: translated"), translated.0, if *number == 0 && room == 0 { 9 } else { *number });
             expect_bytes(&format!("{input}: translated"), &out, &kept);
             let mut s = start(r, rows);
@@ -569,9 +589,10 @@ impl Tally {
     }
 }
 
-/// Lists of steps written as files; those files, whole and damaged, checked and translated, and where steps' commands begin.
-fn scripts(rows: &Rows, r: &mut Random, rounds: usize) -> [Tally; 3] {
-    let mut tallies: [Tally; 3] = Default::default();
+/// Lists of steps written as files; those files, whole and damaged, checked and translated, plain and short, and where steps'
+/// commands begin. Beside the tallies how many short lists are shorter than the plain ones, and by how many commands in all.
+fn scripts(rows: &Rows, r: &mut Random, rounds: usize) -> ([Tally; 3], [usize; 2]) {
+    let (mut tallies, mut shorter): ([Tally; 3], _) = (Default::default(), [0; 2]);
     for round in 0..rounds {
         let count = if r.one_in(8) { r.below(1020) } else { r.below(180) };
         let mut list: Vec<u8> = (0..count).flat_map(|_| step(rows, r)).collect();
@@ -610,16 +631,18 @@ fn scripts(rows: &Rows, r: &mut Random, rounds: usize) -> [Tally; 3] {
         let most = 32 * count + 40;
         let room = if r.one_in(5) { r.below(most) } else { most } as usize;
         let mut commands: Vec<u8> = (0..room).map(|_| r.byte()).collect();
-        let mut kept = commands.clone();
+        let (mut kept, held) = (commands.clone(), commands.clone());
         let translated = library::translate_script(&file, &mut commands);
         expect(&format!("{input}, translated"), translated, script::translate(rows, &file, &mut kept));
         expect_bytes(&format!("{input}, translated"), &commands, &kept);
         tallies[2].add(translated.0);
+        let less = shortened(rows, &format!("{input}, shortened"), &file, held, translated);
+        shorter = [shorter[0] + usize::from(less > 0), shorter[1] + less];
         for step in [0, 1, r.below(count + 2) as usize, count as usize, usize::MAX] {
             expect(&format!("{input}, before step {step}"), library::step_commands(&file, step), script::begins(rows, &file, step));
         }
     }
-    tallies
+    (tallies, shorter)
 }
 
 /// A file played on a state: what is left is what the commands do; registers, AR among them, and colours are what the steps say by
@@ -696,6 +719,130 @@ fn plays(rows: &Rows, r: &mut Random, rounds: usize) -> (Tally, [usize; 2]) {
     (tally, totals)
 }
 
+/// So many steps among which one index goes to one port again and again: a third of them on MSR, each with a say on bit 0, which
+/// picks the CR pair; a third on three registers of CR; the others on two colours, on two registers of each group, or any.
+fn repeating(rows: &Rows, r: &mut Random, count: usize) -> Vec<u8> {
+    let crs = [0; 3].map(|_| r.of(rows.live(0)));
+    let few: Vec<[u8; 2]> = (0..9).map(|g| [0; 2].map(|_| r.of(rows.live(g)))).collect();
+    let entries = [r.byte(), r.byte()];
+    let mut one = || match r.below(12) {
+        0..=3 => {
+            let (value, mask) = (r.byte(), r.byte() | 1);
+            if r.one_in(2) { [1, 6, 0, value, 0, 0] } else { [2, 6, 0, value & mask, mask, 0] }
+        }
+        4..=7 => {
+            let index = r.of(&crs);
+            step_on(r, 0, index)
+        }
+        8 => [3, r.of(&entries), r.byte(), r.byte(), r.byte(), 0],
+        9 | 10 => {
+            let group = r.below(9) as u8;
+            let index = r.of(&few[group as usize]);
+            step_on(r, group, index)
+        }
+        _ => step(rows, r),
+    };
+    (0..count).flat_map(|_| one()).collect()
+}
+
+/// What has to happen in `shorts`, and often.
+const SHORT: [&str; 9] = [
+    "steps whose commands were run",
+    "index writes were left out",
+    "index writes were left out at a CR port",
+    "index writes were left out at a CR port while the other CR pair was picked than at the CR step before",
+    "index writes were left out at a port of another group",
+    "index writes were left out of a FIELD step",
+    "index writes were left out at a port that the step before did not write to",
+    "repeated writes to 3C8h stayed",
+    "lists met closed ports",
+];
+
+/// Shorter lists (document 02, P8), on states whose indexes and turn are stale and whose colour may be half loaded. After every
+/// number of steps, a run of the short commands of those steps leaves the state that the plain ones leave, to the byte, and as
+/// many of them change a register or a colour; registers, AR among them, colours and the picture are what those steps say by name.
+/// Closed ports refuse the first command. How often each of `SHORT` happened.
+fn shorts(rows: &Rows, r: &mut Random, rounds: usize) -> [usize; SHORT.len()] {
+    let (mut expected, mut met) = (Vec::new(), [0; SHORT.len()]);
+    for round in 0..rounds {
+        let mut s = start(r, rows);
+        s[rows.straps()] |= 2;
+        for _ in 0..r.below(30) {
+            library::port_write(&mut s, port(r), r.byte());
+        }
+        let count = 1 + r.below(80) as usize;
+        let mut file = script::file(&repeating(rows, r, count));
+        while script::check(rows, &file).0 != 0 {
+            file = script::file(&repeating(rows, r, count));
+        }
+        let script = format!("short list {round} of {:02X?}", &file[6..6 + 6 * count]);
+        let mut commands: Vec<u8> = (0..32 * count).map(|_| r.byte()).collect();
+        let mut kept = commands.clone();
+        let (number, total) = library::translate_short(&file, &mut commands);
+        expect(&script, (number, total), script::translate_short(rows, &file, &mut kept));
+        expect_bytes(&script, &commands, &kept);
+        commands.truncate(4 * total);
+        if r.one_in(16) {
+            s[rows.straps()] &= !2;
+            let mut part = s.clone();
+            expect(&format!("{script}, closed"), library::run(&mut part, &commands, usize::MAX), (2, 0, 0, 0));
+            expect_bytes(&format!("{script}, closed"), &part, &s);
+            met[8] += 1;
+            continue;
+        }
+
+        let steps = script::steps(rows, &file).unwrap();
+        let marked = script::marked(&steps);
+        let before = Chip::from_bytes(rows, &s);
+        let (mut after, mut said) = (before.clone(), before.clone());
+        let (mut limit, mut changing) = (0, 0);
+        let (mut written, mut pair, mut entry) = ([None; script::INDEX_PORTS.len()], None, None);
+        for n in 0..=count {
+            let input = format!("{script}, {n} steps");
+            let mut part = s.clone();
+            after.to_bytes(rows, &mut expected);
+            expect(&input, library::run(&mut part, &commands, limit), (0, limit, 0, changing));
+            expect_bytes(&input, &part, &expected);
+            expect_bytes(&format!("{input} by name"), &Chip::from_bytes(rows, &part).named(), &said.named());
+            let Some(share) = marked.get(n) else { break };
+
+            let picked = after.register(6, 0).1 & 1;
+            for m in share {
+                let Some(port) = m.index_port() else {
+                    if m.command[..3] == [1, 0xC8, 3] {
+                        met[7] += usize::from(entry.replace(m.command[3]) == Some(m.command[3]));
+                    }
+                    continue;
+                };
+                if !m.stays {
+                    met[1] += 1;
+                    met[if port < 2 { 2 } else { 4 }] += 1;
+                    met[3] += usize::from(port < 2 && pair != Some(picked));
+                    met[5] += usize::from(steps[n][0] == 2);
+                    met[6] += usize::from(written[port] != Some(n - 1));
+                }
+                written[port] = Some(n);
+            }
+            if steps[n][0] != 3 && steps[n][1] == 0 {
+                pair = Some(picked);
+            }
+            met[0] += 1;
+            limit += share.iter().filter(|m| m.stays).count();
+            let plain = share.iter().flat_map(|m| m.command).collect::<Vec<u8>>();
+            changing += after.run(rows, &plain, usize::MAX).3;
+            said.apply(rows, steps[n]);
+        }
+        let plain = marked.iter().flatten().flat_map(|m| m.command).collect::<Vec<u8>>();
+        let mut whole = before;
+        assert_eq!(whole.run(rows, &plain, usize::MAX), (0, plain.len() / 4, 0, changing), "{script}: the plain list at once");
+        assert!(whole == after, "{script}: the plain list at once");
+    }
+    for (what, n) in SHORT.iter().zip(met) {
+        assert!(n > 1000, "only {n} {what}");
+    }
+    met
+}
+
 fn main() {
     let rows = Rows::read();
     let r = &mut Random(69000);
@@ -708,7 +855,7 @@ fn main() {
         ended + limited + stopped, limited, stopped
     );
     assert!(ended > 0 && limited > 0 && stopped > 0, "commands of runs of each ending change something");
-    expect("the versions", library::versions(), (3, 2));
+    expect("the versions", library::versions(), (4, 2));
     println!("{} rooms come back as they were saved", saved(&rows, r, 500));
     println!("{} lengths that are no state's are refused", lengths(r));
     println!("{} bytes of memory agree", memory(r, 10_000));
@@ -716,17 +863,28 @@ fn main() {
     println!("{} lists of steps are judged as is due", judged(&rows, r));
     let [steps, idle] = singles(&rows, r);
     println!("{steps} single steps agree, {idle} of them refused with 11");
-    let [written, checked, translated] = scripts(&rows, r, 20_000);
+    let ([written, checked, translated], [shorter, less]) = scripts(&rows, r, 20_000);
     println!(
         "20000 scripts agree: {} written, {} accepted, {} translated, the others refused alike, with 11 {}, {} and {} of them",
         written.done, checked.done, translated.done, written.idle, checked.idle, translated.idle
     );
+    println!("{} short lists of them agree; {shorter} are shorter than the plain, by {less} commands in all", translated.done);
+    assert!(shorter > 1000, "only {shorter} short lists are shorter");
     let (played, [commands, changing]) = plays(&rows, r, 50_000);
     println!(
         "50000 scripts played agree: {} did what they say by name, {} were refused alike and changed nothing, with 11 {} of them",
         played.done, 50_000 - played.done, played.idle
     );
     println!("{commands} commands of scripts played agree; {changing} changed a register or a colour");
+    let [steps, less, cr, crossed, others, field, apart, colours, closed] = shorts(&rows, r, 20_000);
+    println!(
+        "20000 short lists agree: {} after each of {steps} steps, to the byte and by name, and {closed} refused by closed ports",
+        20_000 - closed
+    );
+    println!(
+        "{less} index writes left out, {cr} at CR ports, {crossed} of them behind a change of the pair picked; {others} at others; \
+         {field} of FIELD steps; {apart} with other steps in between; {colours} repeats at 3C8h stay"
+    );
     for (way, tally) in [("written", written), ("checked", checked), ("translated", translated), ("played", played)] {
         assert!(tally.idle > 0, "no script that was {way} was refused with 11");
     }

@@ -1,6 +1,6 @@
-//! Scripts, written from documents 01 and 02 (P1, P2, P5): a file checked, a list of steps written as a file, a file translated
-//! into commands, and where a step's commands begin. Each answers a number and a value. The commands of group 8 are those of
-//! docs/SCOPE.md, Commands.
+//! Scripts, written from documents 01 and 02 (P1, P2, P5, P8): a file checked, a list of steps written as a file, a file
+//! translated into commands and into a shorter list of them, and where a step's commands begin. Each answers a number and a value.
+//! The commands of group 8 are those of docs/SCOPE.md, Commands.
 
 use crate::model::Rows;
 
@@ -154,7 +154,8 @@ fn expanded(s: &[u8]) -> Vec<[u8; 4]> {
     }
 }
 
-pub fn translate(rows: &Rows, file: &[u8], room: &mut [u8]) -> (u8, usize) {
+/// Commands of the steps of a file, put into an output that has 32 bytes for each step.
+fn put(rows: &Rows, file: &[u8], room: &mut [u8], commands: impl Fn(&[&[u8]]) -> Vec<[u8; 4]>) -> (u8, usize) {
     let list = match steps(rows, file) {
         Ok(list) => list,
         Err(e) => return e,
@@ -162,9 +163,50 @@ pub fn translate(rows: &Rows, file: &[u8], room: &mut [u8]) -> (u8, usize) {
     if room.len() < 32 * list.len() {
         return (9, 0);
     }
-    let bytes: Vec<u8> = list.iter().flat_map(|s| expanded(s)).flatten().collect();
+    let bytes = commands(&list).concat();
     room[..bytes.len()].copy_from_slice(&bytes);
     (0, bytes.len() / 4)
+}
+
+pub fn translate(rows: &Rows, file: &[u8], room: &mut [u8]) -> (u8, usize) {
+    put(rows, file, room, |list| list.iter().flat_map(|s| expanded(s)).collect())
+}
+
+/// The groups' index ports: of CR two, then of SR, GR, XR, FR and MR. 3C8h and 3C0h are not among them.
+pub const INDEX_PORTS: [u16; 7] = [0x3B4, 0x3D4, 0x3C4, 0x3CE, 0x3D6, 0x3D0, 0x3D2];
+
+/// A command of the plain list, and whether the shorter list has it too.
+pub struct Marked {
+    pub command: [u8; 4],
+    pub stays: bool,
+}
+
+impl Marked {
+    /// The place in `INDEX_PORTS` of the port that the command writes to.
+    pub fn index_port(&self) -> Option<usize> {
+        let port = u16::from_le_bytes([self.command[1], self.command[2]]);
+        INDEX_PORTS.iter().position(|&p| self.command[0] == 1 && p == port)
+    }
+}
+
+/// The plain list, step by step, walked with a memory of what each index port was last sent (document 02, P8): a write that sends
+/// the same to the same port is left out. It counts as sent all the same, since the rule is said of the plain list.
+pub fn marked(list: &[&[u8]]) -> Vec<Vec<Marked>> {
+    let mut sent = [None; INDEX_PORTS.len()];
+    let mut mark = |command: [u8; 4]| {
+        let mut m = Marked { command, stays: true };
+        if let Some(port) = m.index_port() {
+            m.stays = sent[port] != Some(command[3]);
+            sent[port] = Some(command[3]);
+        }
+        m
+    };
+    list.iter().map(|s| expanded(s).into_iter().map(&mut mark).collect()).collect()
+}
+
+/// The shorter list. The share of each step in it is what `marked` has of that step and stays.
+pub fn translate_short(rows: &Rows, file: &[u8], room: &mut [u8]) -> (u8, usize) {
+    put(rows, file, room, |list| marked(list).iter().flatten().filter(|m| m.stays).map(|m| m.command).collect())
 }
 
 /// Where the commands of a step begin: how many the steps before it have, and past the last step all of them.
