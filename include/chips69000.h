@@ -124,9 +124,13 @@ uint8_t chips69000_run(uint8_t *state, size_t state_length, const uint8_t *comma
 uint8_t chips69000_play(uint8_t *state, size_t state_length, const uint8_t *file, size_t file_length, uint8_t *commands,
                         size_t commands_length, size_t *count, size_t *value, size_t *changing);
 
-/* Where the commands of a step begin in the translation of a file: the value is the number of commands of the steps before it, and
- * past the last step the number of them all; steps count from 0. As the limit of a run it carries out those steps and no more. */
+/* Where the commands of a step begin in the plain translation of a file: the value is the number of commands of the steps before
+ * it, and past the last step the number of them all; steps count from 0. As the limit of a run of that list it carries out those
+ * steps and no more. */
 uint8_t chips69000_step_commands(const uint8_t *file, size_t file_length, size_t step, size_t *value);
+
+/* The same of the shorter list, for a run of it. */
+uint8_t chips69000_short_step_commands(const uint8_t *file, size_t file_length, size_t step, size_t *value);
 
 #ifdef __cplusplus
 }

@@ -11,6 +11,7 @@ use lib.ListN.{length}
 use borrow.Author.Tests.{lt-ltb, le-ltb, ltb-false}
 use Rattle.lists.specs.Numbers.{returned}
 use Rattle.lists.specs.Put.{put, Added}
+use Rattle.script.specs.Numbers.{checksTable}
 use Rattle.lists.proofs.Tests.{of-cond}
 use Rattle.script_steps.specs.declared.Step.{Step}
 use Rattle.script.specs.File.{stepCount, checked}
@@ -25,7 +26,7 @@ use Rattle.script.proofs.Checking.{Legal, answer-says, accepted-table, refused-
 use Rattle.script.proofs.Reading.{accepted-handed, accepted-end}
 use Rattle.script_commands.specs.Command.{bytesOfAll}
 use Rattle.script_commands.specs.Expansion.{expanded, commandsOf}
-use Rattle.script_commands.specs.Translation.{stepsTo, commandsTo, begins, ifRoom, translated, putBy, ifAccepted, begun, ofTranslated, roomTable, translatedTable, begunTable}
+use Rattle.script_commands.specs.Translation.{stepsTo, commandsTo, ifRoom, translated, putBy, ifAccepted, ofTranslated, roomTable, translatedTable}
 use Rattle.script_commands.specs.Working.{withoutStep, StepsPut}
 use Rattle.script_commands.specs.declared.Command.{Command}
 use Rattle.script_commands.specs.declared.Translated.{Translated}
@@ -33,7 +34,7 @@ use Rattle.script_commands.specs.declared.Translated.the-variants.{Comma
 use Rattle.lists.proofs.Put.{added-append, added-none}
 use Rattle.script_commands.proofs.Codec.{bytes-append, length-bytes}
 use Rattle.script_commands.proofs.Expanding.{commands-next}
-use Rattle.script_commands.proofs.Counted.{begins-past}
+use Rattle.script_commands.proofs.Counted.{steps-past}
 
 pub added-start : (f o : List ℕ) → Added o 0 (bytesOfAll (commandsTo f 0)) o 0
 unfolding stepsTo commandsOf bytesOfAll
@@ -115,31 +116,30 @@ translated-number f room = room-number f (commandsTo f) room
 
 -- ---- where a step's commands begin
 -- the count ends where no step is handed out: past the last there are no more
-pub count-ended : (f : List ℕ) (m : ℕ) → checked f ≡ Accepted m → (j n k : ℕ) {x : Next} {r : Translated} → x ≡ nextOf f j
-    → ((s : Step) → x ≡ Found s → ⊥) → r ≡ withoutStep x k → k ≡ begins f j → j ≤ n → r ≡ Commands (begins f n)
-count-ended f m acc j n k {x} {r} is none gave counted room = go (decLt j m)
+pub count-ended : (f : List ℕ) (m : ℕ) → checked f ≡ Accepted m → (count : List Step → ℕ) (j n k : ℕ) {x : Next} {r : Translated} → x ≡ nextOf f j
+    → ((s : Step) → x ≡ Found s → ⊥) → r ≡ withoutStep x k → k ≡ count (stepsTo f j) → j ≤ n → r ≡ Commands (count (stepsTo f n))
+count-ended f m acc count j n k {x} {r} is none gave counted room = go (decLt j m)
   where
-    go : Dec (j < m) → r ≡ Commands (begins f n)
+    go : Dec (j < m) → r ≡ Commands (count (stepsTo f n))
     go (yes h) = let p = accepted-handed f m acc j h in absurd (none (p .step) (is ∙ p .answer))
     go (no h) =
         let past : m ≤ j = omega arith in
-        gave ∙ ap (λ (y : Next). withoutStep y k) (is ∙ accepted-end f m acc j past) ∙ ap Commands (counted ∙ sym (begins-past f m acc j n past room))
+        gave ∙ ap (λ (y : Next). withoutStep y k) (is ∙ accepted-end f m acc j past)
+        ∙ ap Commands (counted ∙ ap count (sym (steps-past f m acc j n past room)))
 
-pub begun-number : (f : List ℕ) (n : ℕ) → ofTranslated (begun f n) ≡ begunTable f n
-unfolding begun
-begun-number f n = go (checked f) refl
-  where
-    go : (r : Checked) → checked f ≡ r → ofTranslated (ifAccepted r f n) ≡ begunTable f n
-    go (Accepted m) acc = sym (accepted-table f m acc _)
-    go (NotAccepted why) acc = sym (refused-table f why acc _)
+-- what the contract of such a count says, from the check's answer
+module _ (f : List ℕ) (k : ℕ) where
+  count-number : ofTranslated (ifAccepted (checked f) k) ≡ checksTable f (returned 0 k)
+  count-number = go (checked f) refl
+    where
+      go : (r : Checked) → checked f ≡ r → ofTranslated (ifAccepted r k) ≡ checksTable f (returned 0 k)
+      go (Accepted m) acc = sym (accepted-table f m acc _)
+      go (NotAccepted why) acc = sym (refused-table f why acc _)
 
--- what the contract of `step_commands` says, from the check's answer
-pub begun-counted : (f : List ℕ) (n m : ℕ) {r : Translated} → checked f ≡ Accepted m → r ≡ Commands (begins f n)
-    → (r ≡ begun f n) × (ofTranslated r ≡ begunTable f n)
-unfolding begun
-begun-counted f n m {r} acc gave = let e : r ≡ begun f n = rw acc gave in (e, ap ofTranslated e ∙ begun-number f n)
+  pub count-answered : (m : ℕ) {r : Translated} → checked f ≡ Accepted m → r ≡ Commands k
+      → (r ≡ ifAccepted (checked f) k) × (ofTranslated r ≡ checksTable f (returned 0 k))
+  count-answered m {r} acc gave = let e : r ≡ ifAccepted (checked f) k = rw acc gave in (e, ap ofTranslated e ∙ count-number)
 
-pub begun-refused : (f : List ℕ) (n : ℕ) (why : Refusal) → checked f ≡ NotAccepted why
-    → (Refused why ≡ begun f n) × (ofTranslated (Refused why) ≡ begunTable f n)
-unfolding begun
-begun-refused f n why acc = let e : Refused why ≡ begun f n = rw acc refl in (e, ap ofTranslated e ∙ begun-number f n)
+  pub count-refused : (why : Refusal) → checked f ≡ NotAccepted why
+      → (Refused why ≡ ifAccepted (checked f) k) × (ofTranslated (Refused why) ≡ checksTable f (returned 0 k))
+  count-refused why acc = let e : Refused why ≡ ifAccepted (checked f) k = rw acc refl in (e, ap ofTranslated e ∙ count-number)

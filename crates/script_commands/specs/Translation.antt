@@ -58,12 +58,12 @@ abbrev pub leftBy : Translated → List ℕ → List ℕ → List ℕ
 leftBy t f out = putBy t (commandsTo f (stepCount f)) out
 
 -- where the commands of step n of a file begin: how many commands the steps before it have. Past the last step there are no more
-abbrev pub ifAccepted : Checked → List ℕ → ℕ → Translated
-ifAccepted (Accepted m) f n = Commands (begins f n)
-ifAccepted (NotAccepted r) f n = Refused r
+abbrev pub ifAccepted : Checked → ℕ → Translated
+ifAccepted (Accepted m) k = Commands k
+ifAccepted (NotAccepted r) k = Refused r
 
 unfoldable pub begun : List ℕ → ℕ → Translated
-begun f n = ifAccepted (checked f) f n
+begun f n = ifAccepted (checked f) (begins f n)
 
 -- document 01's number and value for each answer
 abbrev pub ofTranslated : Translated → Returned

@@ -6,9 +6,9 @@ use native.Mathlib.Decide.{decLt, ℕ-discrete}
 use native.Mathlib.Numerals.{add-one}
 use mathlib.Core.Bool.{Bool, true, false, cond}
 use mathlib.Core.Path.{_≡_, refl, sym, ap, _∙_}
-use mathlib.Core.List.{List, [], _∷_}
+use mathlib.Core.List.{List, [], _∷_, _++_}
 use lib.Dec.{eqb, ltb}
-use lib.ListN.{length, getD, length-set}
+use lib.ListN.{length, getD, length-set, length-append}
 use lib.Seq.{getD-set-same, getD-set-other}
 use borrow.Author.Tests.{eq-eqb, ne-eqb, lt-ltb, le-ltb}
 use Rattle.lists.specs.Put.{Added}
@@ -24,7 +24,7 @@ use Rattle.script_commands.specs.Translation.{commandsTo}
 use Rattle.script_commands.specs.declared.Command.{Command}
 use Rattle.script_commands.proofs.Codec.{bytes-append, length-bytes}
 use Rattle.script_commands.proofs.Knowing.{known-most}
-use Rattle.script_short.specs.Short.{shortTo}
+use Rattle.script_short.specs.Short.{shortTo, shortBegins}
 use Rattle.script_short.specs.Memory.{slot, slotIn, indexIn, knows, minded}
 use Rattle.script_short.proofs.ShortLaws.{past, short-most, short-start, past-start, short-next, past-next}
 use Rattle.script_short.proofs.Recalling.{Recalled, RecalledFor, OfGroup, is-group, ways-none, short-step, sent-own, recalled-other, recalled-none}
@@ -141,3 +141,15 @@ module _ (f o : List ℕ) (n : ℕ) (s : Step) (last : List ℕ) (is : nextOf f 
       let end : e₂ ≤ length o = omega (arith, more .next, length-bytes (expandedKnown (knows last s) s), known-most (knows last s) s) in
       let step = short-step s (knows last s) (past [] (commandsTo f n)) (known-step last (past [] (commandsTo f n)) h s) in
       (rw (add-one, short-next f n s is, step, bytes-append) (added-append so-far more end), added-length more (omega arith) ∙ same)
+
+-- ---- the same counted
+pub counted-start : (f : List ℕ) → 0 ≡ shortBegins f 0
+counted-start f = rw (short-start f)
+
+pub counted-more : {known : Bool} {k : ℕ} (f : List ℕ) (n : ℕ) (s : Step) (last : List ℕ) → nextOf f n ≡ Found s → Remembers last (past [] (commandsTo f n))
+    → known ≡ knows last s → k ≡ length (expandedKnown known s) → shortBegins f (n + 1) ≡ shortBegins f n + k
+counted-more {known} {k} f n s last is h gave counted =
+    let step = short-step s (knows last s) (past [] (commandsTo f n)) (known-step last (past [] (commandsTo f n)) h s) in
+    let e : shortTo f (n + 1) ≡ shortTo f n ++ expandedKnown (knows last s) s = ap (shortTo f) (add-one n) ∙ short-next f n s is ∙ ap (λ (l : List Command). shortTo f n ++ l) step in
+    ap length e ∙ length-append (shortTo f n) (expandedKnown (knows last s) s)
+    ∙ ap (λ (z : Bool). shortBegins f n + length (expandedKnown z s)) (sym gave) ∙ ap (λ (j : ℕ). shortBegins f n + j) (sym counted)

@@ -8,8 +8,9 @@ use mathlib.Core.List.{List, [], _∷_}
 use lib.Dec.{eqb}
 use lib.ListN.{length}
 use Rattle.script.specs.File.{stepCount, checked}
-use Rattle.lists.specs.Numbers.{Returned}
-use Rattle.script_commands.specs.Translation.{commandsTo, ifRoom, putBy, roomTable}
+use Rattle.script.specs.Numbers.{checksTable}
+use Rattle.lists.specs.Numbers.{Returned, returned}
+use Rattle.script_commands.specs.Translation.{commandsTo, ifRoom, ifAccepted, putBy, roomTable}
 use Rattle.script_commands.specs.declared.Command.{Command}
 use Rattle.script_commands.specs.declared.Command.the-variants.{Out, In, Merge, OutAcc}
 use Rattle.script_commands.specs.declared.Translated.{Translated}
@@ -62,3 +63,10 @@ shortLeftBy t f out = putBy t (shortTo f (stepCount f)) out
 
 abbrev pub shortTable : List ℕ → ℕ → Returned
 shortTable f room = roomTable f (shortTo f) room
+
+-- where the short commands of step n of a file begin, and its table of numbers: 8, 6, 7 or 11
+unfoldable pub shortBegun : List ℕ → ℕ → Translated
+shortBegun f n = ifAccepted (checked f) (shortBegins f n)
+
+abbrev pub shortBegunTable : List ℕ → ℕ → Returned
+shortBegunTable f n = checksTable f (returned 0 (shortBegins f n))

@@ -2,12 +2,13 @@
 // The steps are read as for the plain list (crate `script_commands`), and each is put behind the others with or without its
 // index: an array has what each group was last sent. So nothing is written that is then taken back.
 ghost use mathlib.Core.Path.{_≡_};
-ghost use Prim.Native.Nat.{_*_, _≤_};
+ghost use Prim.Native.Nat.{ℕ, _*_, _≤_};
 ghost use lib.ListN.{length};
 ghost use Rattle.script.specs.File.{checked};
+ghost use Rattle.script_commands.specs.Known.{expandedKnown};
 ghost use Rattle.script_commands.specs.Translation.{ofTranslated};
 ghost use Rattle.script_commands.specs.Working.{StepsPut};
-ghost use Rattle.script_short.specs.Short.{shortTo, shortTranslated, shortLeftBy, shortTable};
+ghost use Rattle.script_short.specs.Short.{shortTo, shortBegins, shortTranslated, shortLeftBy, shortTable, shortBegun, shortBegunTable};
 ghost use Rattle.script_short.specs.Memory.{slot, slotIn, indexIn};
 use script::Checked;
 use script::Next;
@@ -116,5 +117,47 @@ pub fn translate_short(file: &[u8], out: &mut [u8]) -> Translated
             }
             put_short(file, m, out)
         }
+    }
+}
+
+// How many commands a step has, with its index known to stand or not.
+fn short_count(known: bool, s: Step) -> usize
+    ensures { λ r. ⌜ (r ≡ length (expandedKnown known s)) × (r ≤ 8) ⌝ }
+{
+    let mut bytes = [0u8; 32];
+    add_step(&mut bytes, 0, known, s) / 4
+}
+
+// How many short commands the first n steps of an accepted file have, read in the same way.
+fn count_short(file: &[u8], n: usize) -> Translated
+    requires { ⌜ ((m : ℕ) × (checked (now file) ≡ Checked.Accepted m)) ⌝ }
+    ensures { λ r. ⌜ r ≡ Translated.Commands (shortBegins (now (file .entry)) n) ⌝ }
+{
+    let mut last = [0u16; 10];
+    let mut k = 0;
+    let mut j = 0;
+    while j < n {
+        let next = nth(file, j);
+        let Next::Found(step) = next else {
+            return without_step(next, k);
+        };
+        let group = slot_in(step);
+        let index = index_in(step) as u16 + 1;
+        k += short_count(last[group] == index, step);
+        last[group] = index;
+        j += 1;
+    }
+    Translated::Commands(k)
+}
+
+// Where the short commands of step n of a file begin: 8, then 6, then 7 or 11; else how many short commands the steps before it
+// have. Past the last step that is all there are.
+pub fn short_step_commands(file: &[u8], n: usize) -> Translated
+    ensures { λ r. ⌜ r ≡ shortBegun (now (file .entry)) n ⌝ }
+    ensures { λ r. ⌜ ofTranslated r ≡ shortBegunTable (now (file .entry)) n ⌝ }
+{
+    match check_file(file) {
+        Checked::Refused(r) => Translated::Refused(r),
+        Checked::Accepted(_) => count_short(file, n),
     }
 }

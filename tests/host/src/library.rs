@@ -30,6 +30,7 @@ mod raw {
             file: *const u8, file_length: usize, commands: *mut u8, commands_length: usize, value: *mut usize,
         ) -> u8;
         pub fn chips69000_step_commands(file: *const u8, file_length: usize, step: usize, value: *mut usize) -> u8;
+        pub fn chips69000_short_step_commands(file: *const u8, file_length: usize, step: usize, value: *mut usize) -> u8;
         #[allow(clippy::too_many_arguments)]
         pub fn chips69000_run(
             state: *mut u8, state_length: usize, commands: *const u8, commands_length: usize, limit: usize, count: *mut usize,
@@ -170,5 +171,11 @@ pub fn translate_short(file: &[u8], commands: &mut [u8]) -> (u8, usize) {
 pub fn step_commands(file: &[u8], step: usize) -> (u8, usize) {
     let mut value = usize::MAX;
     let r = unsafe { raw::chips69000_step_commands(file.as_ptr(), file.len(), step, &mut value) };
+    (r, value)
+}
+
+pub fn short_step_commands(file: &[u8], step: usize) -> (u8, usize) {
+    let mut value = usize::MAX;
+    let r = unsafe { raw::chips69000_short_step_commands(file.as_ptr(), file.len(), step, &mut value) };
     (r, value)
 }

@@ -639,7 +639,9 @@ fn scripts(rows: &Rows, r: &mut Random, rounds: usize) -> ([Tally; 3], [usize; 2
         let less = shortened(rows, &format!("{input}, shortened"), &file, held, translated);
         shorter = [shorter[0] + usize::from(less > 0), shorter[1] + less];
         for step in [0, 1, r.below(count + 2) as usize, count as usize, usize::MAX] {
-            expect(&format!("{input}, before step {step}"), library::step_commands(&file, step), script::begins(rows, &file, step));
+            let place = format!("{input}, before step {step}");
+            expect(&place, library::step_commands(&file, step), script::begins(rows, &file, step));
+            expect(&place, library::short_step_commands(&file, step), script::short_begins(rows, &file, step));
         }
     }
     (tallies, shorter)
@@ -801,6 +803,7 @@ fn shorts(rows: &Rows, r: &mut Random, rounds: usize) -> [usize; SHORT.len()] {
             let input = format!("{script}, {n} steps");
             let mut part = s.clone();
             after.to_bytes(rows, &mut expected);
+            expect(&format!("{input}, where they end"), library::short_step_commands(&file, n), (0, limit));
             expect(&input, library::run(&mut part, &commands, limit), (0, limit, 0, changing));
             expect_bytes(&input, &part, &expected);
             expect_bytes(&format!("{input} by name"), &Chip::from_bytes(rows, &part).named(), &said.named());

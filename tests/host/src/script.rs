@@ -213,3 +213,9 @@ pub fn translate_short(rows: &Rows, file: &[u8], room: &mut [u8]) -> (u8, usize)
 pub fn begins(rows: &Rows, file: &[u8], step: usize) -> (u8, usize) {
     steps(rows, file).map_or_else(|e| e, |list| (0, list.iter().take(step).map(|s| expanded(s).len()).sum()))
 }
+
+/// The same in the shorter list.
+pub fn short_begins(rows: &Rows, file: &[u8], step: usize) -> (u8, usize) {
+    let share = |list: Vec<&[u8]>| marked(&list).iter().take(step).flatten().filter(|m| m.stays).count();
+    steps(rows, file).map_or_else(|e| e, |list| (0, share(list)))
+}

@@ -5,6 +5,8 @@ use mathlib.Core.Logic.{⊎-elim}
 use Rattle.script.proofs.Reading.{found-before}
 use Rattle.script.proofs.Checking.{answer-says}
 use Rattle.script.proofs.Counting.{accepted-few}
+use lib.ListN.{length}
+use Rattle.script_commands.specs.Expansion.{commandsOf}
 use Rattle.script_commands.specs.Translation.{begins}
 use Rattle.script_commands.specs.declared.Translated.the-variants.{Commands}
 use Rattle.script_commands.proofs.Counted.{begins-start, begins-next}
@@ -56,7 +58,7 @@ count-steps-spec =
     (λ c. let l = c .before .before .before .before in
     let f = l .before .before .args .file .now in
     let (m, acc) = l .before .before .pre in
-    count-ended f m acc (l .loop .j) (l .before .before .args .n) (l .loop .k) (c .before .before .nth .ensures .0)
+    count-ended f m acc (λ ss. length (commandsOf ss)) (l .loop .j) (l .before .before .args .n) (l .loop .k) (c .before .before .nth .ensures .0)
     (λ s e. ⊎-elim (λ w. omega arith) (λ w. omega arith) (rw e at (c .before .match .keys2))) (c .without-step .ensures) (l .loop .inv .0) (omega arith))
     (λ c κs. search needs)
     add-k
