@@ -9,7 +9,6 @@ use Rattle.chip.specs.State.{Chip, named, join}
 use Rattle.chip.specs.Names.{portsOpen}
 use Rattle.script.specs.File.{stepCount, checked}
 use Rattle.script_commands.specs.Translation.{stepsTo, commandsTo, putBy}
-use Rattle.script_commands.specs.declared.Command.{Command}
 use Rattle.script_commands.specs.declared.CommandRead.{CommandRead}
 use Rattle.script_commands.specs.declared.Translated.{Translated}
 use Rattle.script_short.specs.Short.{shortened, shortTo, shortTranslated, shortLeftBy}
@@ -26,11 +25,11 @@ use Rattle.chip_short.specs.Played.{shortPlayed}
 use Rattle.chip_short.proofs.Demand3.{short-alike, short-goes}
 
 -- the first command stays, and with closed ports it is refused
-short-stops : (c : Chip) (shut : portsOpen (named c) ≡ false) (cs : List Command) → Stops c shut cs → Stops c shut (shortened [] cs)
-short-stops c shut cs s = record {
+short-stops : (c : Chip) (shut : portsOpen (named c) ≡ false) (f : List ℕ) (m : ℕ) → Stops c shut (commandsTo f m) → Stops c shut (shortTo f m)
+short-stops c shut f m s = record {
   first = s .first;
   others = shortened (s .first ∷ []) (s .others);
-  whole = ap (shortened []) (s .whole) ∙ first-stays (s .first) (s .others);
+  whole = first-stays f m (s .first) (s .others) (s .whole);
   refused = s .refused;
 }
 
@@ -45,7 +44,7 @@ short-plays f c = record {
             ∙ ap (λ (rs : List CommandRead). ranTo d (length (shortTo f m)) (altering c 0 rs) Ended) (sym (reads-bytes (commandsTo f m))),
         refl,
       );
-  stops = λ m acc shut. short-stops c shut (commandsTo f m) (plain-plays f c .stops m acc shut);
+  stops = λ m acc shut. short-stops c shut f m (plain-plays f c .stops m acc shut);
 }
 
 -- what the contract of `play_short` says, from what was run in the buffer

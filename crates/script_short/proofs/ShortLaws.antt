@@ -1,6 +1,6 @@
--- Laws of the short list. What is left out is counted, so it is never longer than the plain list (`short-length`); a list of two
--- parts is shortened part by part, the second behind the first (`short-append`); 3C8h and 3C0h always stay (`palette-stays`,
--- `attribute-stays`), and a first command too (`first-stays`).
+-- Laws of the short list. 3C8h and 3C0h always stay (`palette-stays`, `attribute-stays`), and a script's first command too
+-- (`first-stays`). A list of two parts is shortened part by part, the second behind the first (`short-append`). What is left out is
+-- counted, so the list is never longer than the plain one (`short-length`).
 use Prim.Native.Nat.{ℕ, suc, _+_, _*_, _≤_}
 use native.Mathlib.Omega.{arith}
 use mathlib.Core.Bool.{Bool, true, false, cond, _&&_}
@@ -17,6 +17,25 @@ use Rattle.script_commands.specs.declared.Command.{Command}
 use Rattle.script_commands.specs.declared.Command.the-variants.{Out, In, Merge, OutAcc}
 use Rattle.script_commands.proofs.Expanding.{commands-next, begins-most}
 use Rattle.script_short.specs.Short.{isIndexPort, lastSent, leftOut, shortened, omitted, shortTo, shortBegins}
+
+-- ---- what always stays
+pub palette-stays : (before : List Command) (v : ℕ) → leftOut before (Out 0x3C8 v) ≡ false
+palette-stays before v = refl
+
+pub attribute-stays : (before : List Command) (v : ℕ) → leftOut before (Out 0x3C0 v) ≡ false
+attribute-stays before v = refl
+
+and-false : (z : Bool) → (z && false) ≡ false
+and-false true = refl
+and-false false = refl
+
+-- a script's first command, whatever a state's indexes are
+pub first-stays : (f : List ℕ) (n : ℕ) (c : Command) (cs : List Command) → commandsTo f n ≡ c ∷ cs → shortTo f n ≡ c ∷ shortened (c ∷ []) cs
+unfolding shortened lastSent
+first-stays f n (Out p i) cs is = ap (shortened []) is ∙ rw (and-false (isIndexPort p)) refl
+first-stays f n (In p) cs is = ap (shortened []) is
+first-stays f n (Merge k s) cs is = ap (shortened []) is
+first-stays f n (OutAcc p) cs is = ap (shortened []) is
 
 -- commands behind others, with the last first
 unfoldable pub past : List Command → List Command → List Command
@@ -55,24 +74,6 @@ short-shorter f n = omega (arith, short-length [] (commandsTo f n))
 
 pub short-most : (f : List ℕ) (n : ℕ) → shortBegins f n ≤ 8 * n
 short-most f n = omega (arith, short-shorter f n, begins-most f n)
-
--- ---- what always stays
-pub palette-stays : (before : List Command) (v : ℕ) → leftOut before (Out 0x3C8 v) ≡ false
-palette-stays before v = refl
-
-pub attribute-stays : (before : List Command) (v : ℕ) → leftOut before (Out 0x3C0 v) ≡ false
-attribute-stays before v = refl
-
-and-false : (z : Bool) → (z && false) ≡ false
-and-false true = refl
-and-false false = refl
-
-pub first-stays : (c : Command) (cs : List Command) → shortened [] (c ∷ cs) ≡ c ∷ shortened (c ∷ []) cs
-unfolding shortened lastSent
-first-stays (Out p i) cs = rw (and-false (isIndexPort p))
-first-stays (In p) cs = refl
-first-stays (Merge k s) cs = refl
-first-stays (OutAcc p) cs = refl
 
 -- ---- the list of a file, step by step
 pub short-start : (f : List ℕ) → shortTo f 0 ≡ []
