@@ -5,7 +5,7 @@
 -- Assumes nothing.
 use mathlib.Core.Path.{_≡_, _∙_}
 use mathlib.Core.Bool.{Bool, true, false, cond}
-use mathlib.Core.List.{List, _++_}
+use mathlib.Core.List.{List, [], _++_}
 use mathlib.Core.Logic.{_↔_}
 use Prim.Native.Nat.{ℕ, _+_, _*_, _/_, _%_, _≤_, _<_}
 use lib.ListN.{length, getD}
@@ -88,7 +88,11 @@ use Rattle.chip_run.proofs.RunLaws as run-laws
 use Rattle.chip_run.proofs.RunNumbers as run-number-laws
 use Rattle.chip_run.proofs.ChangingLaws as changing-laws
 use Rattle.chip_run.specs.declared.Verdict.the-variants.{Done as Carried}
+use Rattle.script_commands.specs.declared.Command.{Command}
+use Rattle.script_commands.specs.declared.Command.the-variants.{Out}
 use Rattle.script_commands.specs.declared.CommandRead.{CommandRead}
+use Rattle.script_short.specs.Short.{isIndexPort, leftOut, omitted, shortTo, shortBegins, shortTranslated, shortTable}
+use Rattle.script_short.proofs.ShortLaws as short-laws
 use Rattle.chip_play.specs.ByName.{applied, appliedAll, stepsChanging}
 use Rattle.chip_play.specs.Played.{changingOf}
 use Rattle.chip_play.specs.Matching.{Act, Said, gave, KeptGave}
@@ -99,6 +103,8 @@ use Rattle.chip_play.proofs.Scripts as script-laws
 use Rattle.chip_play.proofs.Scripts.{AllPass}
 use Rattle.chip_play.proofs.Idle as idle-laws
 use Rattle.chip.proofs.NameLaws.{Bytes as NamedBytes}
+use Rattle.chip_short.proofs.Demand3 as short-scripts
+use Rattle.chip_short.proofs.IndexPorts as index-ports
 use Rattle.lent_chip.specs.Layout.{whole, laid, view, spare}
 use Rattle.lent_chip.specs.Accesses.{Left}
 use Rattle.lent_chip.proofs.Whole as whole-laws
@@ -369,3 +375,48 @@ P7-no-place-left = row-laws.each-slot
 
 pub P7-listed-only : (g : Group) (i : ℕ) → i < 0x100 → isIndexed g ≡ true → (slotOf g i ≡ Nowhere) ↔ (rowOf g i ≡ Unlisted)
 P7-listed-only g i h x = (row-laws.nowhere-unlisted g i h x, row-laws.unlisted-nowhere g i h)
+
+-- P8. The short list. Its numbers are those of the table, 8, 6, 7 or 11, 9 at 32 bytes a step; the ports of its rule are exactly
+-- those at which a write leads to a group's index, with one CR pair picked or the other, and writes to 3C8h and 3C0h always stay;
+-- its length is the plain length less the writes left out.
+pub P8-numbers : (f : List ℕ) (room : ℕ) → ofTranslated (shortTranslated f room) ≡ shortTable f room
+unfolding shortTranslated
+P8-numbers f room = translating.room-number f (shortTo f) room
+
+pub P8-index-ports : (b : Bool) (p : ℕ) (g : Group) → target b true p ≡ Index g → isIndexPort p ≡ true
+P8-index-ports = index-ports.leads-index-port
+
+pub P8-no-other-ports : (p : ℕ) → isIndexPort p ≡ true → (b : Bool) × (g : Group) × (target b true p ≡ Index g)
+P8-no-other-ports = index-ports.index-port-leads
+
+pub P8-stays : (before : List Command) (v : ℕ) → (leftOut before (Out 0x3C8 v) ≡ false) × (leftOut before (Out 0x3C0 v) ≡ false)
+P8-stays before v = (short-laws.palette-stays before v, short-laws.attribute-stays before v)
+
+pub P8-length : (f : List ℕ) (n : ℕ) → shortBegins f n + omitted [] (commandsTo f n) ≡ begins f n
+P8-length f n = short-laws.short-length [] (commandsTo f n)
+
+-- After the short commands of the first n steps of an accepted file, from any state that accesses reach from a reset with ports
+-- open: all were carried out and none refused, everything that has a name is what these steps say, bit 5 of the attribute index is
+-- what it was; and the whole state is the one that the plain commands of these steps leave, with as many changes on the way.
+pub P8-demand-3 : (file : List ℕ) (m : ℕ) → checked file ≡ Accepted m → (first second : ℕ) → isSet 1 first ≡ true → (c : Chip) → Reach first second c
+    → (n : ℕ) → n ≤ m
+    → (ran c (bytesOfAll (shortTo file m)) (shortBegins file n) .count ≡ shortBegins file n)
+    × (ofEnding (ran c (bytesOfAll (shortTo file m)) (shortBegins file n) .ending) ≡ returned 0 0)
+    × (named (ran c (bytesOfAll (shortTo file m)) (shortBegins file n) .chip) ≡ appliedAll (stepsTo file n) (named c))
+    × (ran c (bytesOfAll (shortTo file m)) (shortBegins file n) .chip .picture ≡ c .picture)
+    × (ran c (bytesOfAll (shortTo file m)) (shortBegins file n) .chip ≡ ran c (bytesOfAll (commandsTo file m)) (begins file n) .chip)
+    × (ran c (bytesOfAll (shortTo file m)) (shortBegins file n) .changing ≡ ran c (bytesOfAll (commandsTo file m)) (begins file n) .changing)
+P8-demand-3 file m acc first second strapped c reach n h =
+    let r = short-scripts.demand-3-short .holds file m acc first second strapped c reach n h in
+    (r .count, r .unrefused, r .byName, r .picture, r .same, r .changing)
+
+-- The same on lent bytes, of any bytes that hold a chip whose ports are open: what `run` of `lent_run` answers, and leaves.
+pub P8-on-lent-bytes : (file : List ℕ) (m : ℕ) → checked file ≡ Accepted m → (l : List ℕ) → length l ≡ whole → portsOpen (named (view l)) ≡ true
+    → (n : ℕ) → n ≤ m → (r : LentRan) (after : List ℕ) → r ≡ runAnswer l (bytesOfAll (shortTo file m)) (shortBegins file n)
+    → Left l (ran (view l) (bytesOfAll (shortTo file m)) (shortBegins file n) .chip) (spare l) after
+    → ((e : Ending) × (r ≡ Ran (shortBegins file n) (stepsChanging (stepsTo file n) (named (view l))) e) × (ofEnding e ≡ returned 0 0))
+    × (named (view after) ≡ appliedAll (stepsTo file n) (named (view l)))
+    × (view after ≡ ran (view l) (bytesOfAll (commandsTo file m)) (begins file n) .chip)
+P8-on-lent-bytes file m acc l size open-ports n h r after answer left =
+    let (a, same) = lent-scripts.demand-3-short-in .holds file m acc l size open-ports n h r after answer left in
+    ((a .ending, a .answer, a .unrefused), a .byName, same)
