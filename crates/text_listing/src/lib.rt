@@ -1,21 +1,24 @@
 // The listing of a script file as text: a header, then a line for each of its commands; or the number of its
 // refusal. Document 01, "The listing program", and document 02, P6: how many commands change a register or a colour on a
-// chip after a reset. The definition is specs/Text, with the lines in specs/Line and the digits in the crate text. Reading
-// a file and printing the text is the program listing's.
+// chip after a reset. The commands are those of the plain list, or of the shorter list of document 02, P8. The definition is
+// specs/Text, with the lines in specs/Line and the digits in the crate text. Reading a file and printing the text is the
+// programs', listing and short.
 ghost use mathlib.Core.Path.{_≡_};
 ghost use mathlib.Core.List.{_++_};
 ghost use Prim.Native.Nat.{_+_, _*_, _≤_};
 ghost use lib.ListN.{length};
 ghost use Rattle.script_commands.specs.Translation.{translated, leftBy as translatedBy};
+ghost use Rattle.script_short.specs.Short.{shortTranslated, shortLeftBy};
 ghost use Rattle.text.specs.Adding.{AddedIn};
 ghost use Rattle.text_listing.specs.Line.{words, line};
 ghost use Rattle.text.specs.Refused.{refused};
-ghost use Rattle.text_listing.specs.Text.{countsLine, changingLine, header, listed, leftBy, ofListed, listedTable};
+ghost use Rattle.text_listing.specs.Text.{countsLine, changingLine, header, text, shortText, listedBy, listed, shortListed, leftBy, ofListed, listedTable, shortListedTable};
 ghost use Rattle.lists.specs.Put.{Added};
-ghost use Rattle.text_listing.specs.Adding.{lineRead, linesTo};
+ghost use Rattle.text_listing.specs.Adding.{lineRead, linesTo, answerOf, Stands, textOf};
 use chip::Chip;
 use chip_play::Outcome;
 use chip_play::play;
+use chip_short::play_short;
 use script::Refusal;
 use script::step_count;
 use script_commands::Command;
@@ -197,15 +200,12 @@ fn add_text(out: &mut [u8], steps: usize, changing: usize, bytes: &[u8], k: usiz
     add_lines(out, at, bytes, k)
 }
 
-// The listing of a script file into `out`; its commands go to `work`, which wants 32 bytes a step.
-pub fn list(file: &[u8], work: &mut [u8], out: &mut [u8]) -> Listed
-    ensures { λ r. ⌜ r ≡ listed (now (file .entry)) (length (now (work .entry))) (length (now (out .entry))) ⌝ }
-    ensures { λ r. ⌜ now (out .exit) ≡ leftBy r (now (file .entry)) (length (now (work .entry))) (now (out .entry)) ⌝ }
-    ensures { λ r. ⌜ now (work .exit) ≡ translatedBy (translated (now (file .entry)) (length (now (work .entry)))) (now (file .entry)) (now (work .entry)) ⌝ }
-    ensures { λ r. ⌜ ofListed r ≡ listedTable (now (file .entry)) (length (now (work .entry))) (length (now (out .entry))) ⌝ }
+// The listing of a script file of which a play answered this and left its commands in front of `work`.
+fn put_listing(out: &mut [u8], file: &[u8], work: &[u8], outcome: Outcome) -> Listed
+    requires { ⌜ Stands outcome (now work) ⌝ }
+    ensures { λ r. ⌜ r ≡ listedBy (answerOf outcome) (textOf outcome (now (file .entry)) (now (work .entry))) (length (now (out .entry))) ⌝ }
+    ensures { λ r. ⌜ now (out .exit) ≡ leftBy r (textOf outcome (now (file .entry)) (now (work .entry))) (now (out .entry)) ⌝ }
 {
-    let played = play(Chip::new(0xFF, 0xFF), file, work);
-    let outcome = played.outcome;
     match outcome {
         Outcome::NotPlayed(r) => {
             if out.len() < 87 {
@@ -220,4 +220,28 @@ pub fn list(file: &[u8], work: &mut [u8], out: &mut [u8]) -> Listed
             Listed::Text(add_text(out, step_count(file), changing, work, k))
         }
     }
+}
+
+// The listing of a script file into `out`; its commands go to `work`, which wants 32 bytes a step.
+pub fn list(file: &[u8], work: &mut [u8], out: &mut [u8]) -> Listed
+    ensures { λ r. ⌜ r ≡ listed (now (file .entry)) (length (now (work .entry))) (length (now (out .entry))) ⌝ }
+    ensures { λ r. ⌜ now (out .exit) ≡ leftBy r (text (now (file .entry)) (length (now (work .entry)))) (now (out .entry)) ⌝ }
+    ensures { λ r. ⌜ now (work .exit) ≡ translatedBy (translated (now (file .entry)) (length (now (work .entry)))) (now (file .entry)) (now (work .entry)) ⌝ }
+    ensures { λ r. ⌜ ofListed r ≡ listedTable (now (file .entry)) (length (now (work .entry))) (length (now (out .entry))) ⌝ }
+{
+    let played = play(Chip::new(0xFF, 0xFF), file, work);
+    let outcome = played.outcome;
+    put_listing(out, file, work, outcome)
+}
+
+// The same of the shorter list of its commands: document 02, P8.
+pub fn list_short(file: &[u8], work: &mut [u8], out: &mut [u8]) -> Listed
+    ensures { λ r. ⌜ r ≡ shortListed (now (file .entry)) (length (now (work .entry))) (length (now (out .entry))) ⌝ }
+    ensures { λ r. ⌜ now (out .exit) ≡ leftBy r (shortText (now (file .entry)) (length (now (work .entry)))) (now (out .entry)) ⌝ }
+    ensures { λ r. ⌜ now (work .exit) ≡ shortLeftBy (shortTranslated (now (file .entry)) (length (now (work .entry)))) (now (file .entry)) (now (work .entry)) ⌝ }
+    ensures { λ r. ⌜ ofListed r ≡ shortListedTable (now (file .entry)) (length (now (work .entry))) (length (now (out .entry))) ⌝ }
+{
+    let played = play_short(Chip::new(0xFF, 0xFF), file, work);
+    let outcome = played.outcome;
+    put_listing(out, file, work, outcome)
 }
