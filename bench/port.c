@@ -237,8 +237,8 @@ static bool differs(const struct chip *x, const struct chip *y) {
            memcmp(x->palette, y->palette, sizeof x->palette);
 }
 
-// a port of the attribute registers, in either direction; MSR, which picks the port of input status 1, and XR09, which does nothing
-// to the turn; or any port
+// a port of the attribute registers, in either direction; MSR, which picks the port of input status 1, and XR09, which does
+// nothing to the turn; or any port
 static struct access attribute(void) {
     static const uint16_t port[] = {0x3C0, 0x3C0, 0x3C0, 0x3C0, 0x3C1, 0x3C1, 0x3BA, 0x3DA, 0x3C2, 0x3D6, 0x3D7};
     uint32_t k = drawn(12);

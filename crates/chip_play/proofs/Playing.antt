@@ -218,8 +218,8 @@ pub play-answered : (c : Chip) (f o : List ℕ) {r : Performance} {o′ : List �
 unfolding translated played
 play-answered c f o is left gave = list-answered f (commandsTo f) c (plain-plays f c) (length o) (begins-most f) o refl is left gave
 
--- ---- on a chip after a reset, whose ports are open: what became of a script says what its translation answered, and how many of its
--- commands change something
+-- ---- on a chip after a reset, whose ports are open: what became of a script says what its translation answered, and how many of
+-- its commands change something
 pub fresh-open : portsOpen (named fresh) ≡ true
 unfolding portsOpen reset tab resetByte
 fresh-open = refl

@@ -56,8 +56,9 @@ changingOf c file = altering c 0 (reads (bytesOfAll (commandsTo file (stepCount 
 unfoldable pub played : Chip → List ℕ → ℕ → Performance
 played c file room = afterTranslation (translated file room) (commandsTo file (stepCount file)) c
 
--- by name, where a file's translation answers t: a refused file changes nothing; with open ports every command is carried out and the registers and colours are what
--- the steps say; with closed ports the run stops at its first command, number 2, and nothing changes
+-- by name, where a file's translation answers t: a refused file changes nothing; with open ports every command is carried out and
+-- the registers and colours are what the steps say; with closed ports the run stops at its first command, number 2, and nothing
+-- changes
 pub record ByName (t : Translated) (c : Chip) (file : List ℕ) (p : Performance) : Type 0 where
   pub refused : (why : Refusal) → t ≡ Refused why → (p .outcome ≡ NotPlayed why) × (p .chip ≡ c)
   pub answers : (k : ℕ) → t ≡ Commands k → portsOpen (named c) ≡ true

@@ -1,6 +1,6 @@
--- Demand 3 for the short list. Each step does the same without the writes of an index that stands, and what the rule leaves out is
--- such a write: so the short list of a script leaves, after each step, the state and the accumulator that the plain list leaves,
--- and changes a register or a colour as often (`script-alike`). What the plain list does, it then does too.
+-- Demand 3 for the short list. Each step does the same without the writes of an index that stands, and what the rule leaves out
+-- is such a write: so the short list of a script leaves, after each step, the state and the accumulator that the plain list
+-- leaves, and changes a register or a colour as often (`script-alike`). What the plain list does, it then does too.
 use Prim.Native.Nat.{ℕ, _≤_}
 use mathlib.Core.Bool.{true}
 use mathlib.Core.Path.{_≡_, refl, sym, ap, _∙_}

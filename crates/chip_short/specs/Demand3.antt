@@ -1,8 +1,8 @@
--- Demand 3 for the short list, to read: document 02, P8. A script's short commands do what the steps say, after each step and from
--- any state that accesses reach, and they leave what the plain list leaves. The definitions under it are those of the plain list's
--- own statement (specs/Demand3 of crate `chip_play`), with `shortTo` and `shortBegins` of crate `script_short` in place of its list
--- and its counts. The theorem is `demand-3-short`, in proofs/Demand3. A run that its limit stops inside a step is not covered:
--- there a plain list has sent an index again that the short one has not.
+-- Demand 3 for the short list, to read: document 02, P8. A script's short commands do what the steps say, after each step and
+-- from any state that accesses reach, and they leave what the plain list leaves. The definitions under it are those of the plain
+-- list's own statement (specs/Demand3 of crate `chip_play`), with `shortTo` and `shortBegins` of crate `script_short` in place of
+-- its list and its counts. The theorem is `demand-3-short`, in proofs/Demand3. A run that its limit stops inside a step is not
+-- covered: there a plain list has sent an index again that the short one has not.
 use Prim.Native.Nat.{ℕ, _≤_}
 use mathlib.Core.Path.{_≡_}
 use mathlib.Core.Bool.{true}
@@ -24,10 +24,10 @@ use Rattle.chip_play.specs.Demand3.{ranSteps}
 abbrev pub ranShort : Chip → List ℕ → ℕ → ℕ → Ran
 ranShort c file m n = ran c (bytesOfAll (shortTo file m)) (shortBegins file n)
 
--- after the short commands of the first n steps: all of them were carried out, none was refused, everything that has a name is what
--- the n steps say, and bit 5 of the attribute index is unchanged. "Registers, colours and P1's bit 5 are the same as with the plain
--- list", and so is the whole state, with every index, the turn of 3C0h and the palette's loading state (`same`); and as many
--- commands changed a register or a colour as of the plain list's (P6)
+-- after the short commands of the first n steps: all of them were carried out, none was refused, everything that has a name is
+-- what the n steps say, and bit 5 of the attribute index is unchanged. "Registers, colours and P1's bit 5 are the same as with
+-- the plain list", and so is the whole state, with every index, the turn of 3C0h and the palette's loading state (`same`); and as
+-- many commands changed a register or a colour as of the plain list's (P6)
 pub record AfterShort (c : Chip) (file : List ℕ) (m n : ℕ) : Type 0 where
   pub count : ranShort c file m n .count ≡ shortBegins file n
   pub unrefused : ofEnding (ranShort c file m n .ending) ≡ returned 0 0

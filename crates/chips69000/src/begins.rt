@@ -1,6 +1,6 @@
 // Where a step's commands begin in the translation of a script file, in the plain list and in the shorter one: with that as the
-// limit of a run, the run ends with the commands of the steps before it. Document 01, "Commands"; document 02, P8; demand 3, which
-// looks after each step.
+// limit of a run, the run ends with the commands of the steps before it. Document 01, "Commands"; document 02, P8; demand 3,
+// which looks after each step.
 ghost use mathlib.Core.Path.{_≡_};
 ghost use Rattle.script_commands.specs.Translation.{begun, ofTranslated};
 ghost use Rattle.script_short.specs.Short.{shortBegun};

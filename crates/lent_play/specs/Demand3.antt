@@ -28,9 +28,9 @@ use Rattle.lent_run.specs.Run.{runAnswer}
 use Rattle.lent_run.specs.declared.LentRan.{LentRan}
 use Rattle.lent_run.specs.declared.LentRan.the-variants.{Ran}
 
--- what the run of the first n steps' commands, which are k, answers and leaves of the bytes l: all of them were carried out, as many of them
--- changed something as steps do by name (document 02, P6), none was refused, the registers and colours are what the steps say by
--- name, and bit 5 of the attribute index is as it was
+-- what the run of the first n steps' commands, which are k, answers and leaves of the bytes l: all of them were carried out, as
+-- many of them changed something as steps do by name (document 02, P6), none was refused, the registers and colours are what the
+-- steps say by name, and bit 5 of the attribute index is as it was
 pub record AfterStepsIn (l file : List ℕ) (n k : ℕ) (r : LentRan) (after : List ℕ) : Type 0 where
   pub ending : Ending
   pub answer : r ≡ Ran k (stepsChanging (stepsTo file n) (named (view l))) ending

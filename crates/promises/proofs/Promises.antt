@@ -396,8 +396,8 @@ pub P8-length : (f : List ℕ) (n : ℕ) → shortBegins f n + omitted [] (comma
 P8-length f n = short-laws.short-length [] (commandsTo f n)
 
 -- After the short commands of the first n steps of an accepted file, from any state that accesses reach from a reset with ports
--- open: all were carried out and none refused, everything that has a name is what these steps say, bit 5 of the attribute index is
--- what it was; and the whole state is the one that the plain commands of these steps leave, with as many changes on the way.
+-- open: all were carried out and none refused, everything that has a name is what these steps say, bit 5 of the attribute index
+-- is what it was; and the whole state is the one that the plain commands of these steps leave, with as many changes on the way.
 pub P8-demand-3 : (file : List ℕ) (m : ℕ) → checked file ≡ Accepted m → (first second : ℕ) → isSet 1 first ≡ true → (c : Chip) → Reach first second c
     → (n : ℕ) → n ≤ m
     → (ran c (bytesOfAll (shortTo file m)) (shortBegins file n) .count ≡ shortBegins file n)

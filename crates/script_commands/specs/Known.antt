@@ -1,6 +1,6 @@
--- A step's commands where the index that they would write may be known to stand already: those of Expansion, without the writes to
--- index ports. Document 02, P8, whose shorter list is put together of these (crate `script_short`). With nothing known they are the
--- step's commands, as its own law says (proofs/Knowing).
+-- A step's commands where the index that they would write may be known to stand already: those of Expansion, without the writes
+-- to index ports. Document 02, P8, whose shorter list is put together of these (crate `script_short`). With nothing known they
+-- are the step's commands, as its own law says (proofs/Knowing).
 use Prim.Native.Nat.{ℕ, _-_}
 use mathlib.Core.Bool.{Bool, cond}
 use mathlib.Core.List.{List, [], _∷_, _++_}

@@ -1,7 +1,7 @@
 -- One step of the short list. What was last sent to the index ports of its group decides it: a step is shortened to its commands
--- without the writes of its index, or is not shortened at all (`short-step`). For CR that takes that both its ports were last sent
--- the same, and so they were between any two steps: a step sends its index to all index ports of its group and nothing to those of
--- others (`sent-own`, `sent-other`). By the way a group is reached, once over the groups.
+-- without the writes of its index, or is not shortened at all (`short-step`). For CR that takes that both its ports were last
+-- sent the same, and so they were between any two steps: a step sends its index to all index ports of its group and nothing to
+-- those of others (`sent-own`, `sent-other`). By the way a group is reached, once over the groups.
 use Prim.Native.Nat.{ℕ, zero, suc, _-_, _<_, _≤_}
 use native.Mathlib.Decide.{ℕ-discrete}
 use native.Mathlib.Omega.{arith}

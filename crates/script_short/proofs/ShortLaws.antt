@@ -1,6 +1,6 @@
 -- Laws of the short list. 3C8h and 3C0h always stay (`palette-stays`, `attribute-stays`), and a script's first command too
--- (`first-stays`). A list of two parts is shortened part by part, the second behind the first (`short-append`). What is left out is
--- counted, so the list is never longer than the plain one (`short-length`).
+-- (`first-stays`). A list of two parts is shortened part by part, the second behind the first (`short-append`). What is left out
+-- is counted, so the list is never longer than the plain one (`short-length`).
 use Prim.Native.Nat.{ℕ, suc, _+_, _*_, _≤_}
 use native.Mathlib.Omega.{arith}
 use mathlib.Core.Bool.{Bool, true, false, cond, _&&_}

@@ -1,7 +1,7 @@
 -- A script file translated into a shorter list: document 02, P8. It is the plain list (`commandsTo` of crate `script_commands`)
 -- without those writes to index ports that send what the last write to the same port sent. The rule is said of the plain list, so
--- a write that is itself left out counts as sent. Numbers and the room of 32 bytes a step are those of the plain translation. Laws
--- of the list are proofs/ShortLaws; that it does what the plain list does is crate `chip_short`'s.
+-- a write that is itself left out counts as sent. Numbers and the room of 32 bytes a step are those of the plain translation.
+-- Laws of the list are proofs/ShortLaws; that it does what the plain list does is crate `chip_short`'s.
 use Prim.Native.Nat.{ℕ, _+_}
 use mathlib.Core.Bool.{Bool, false, cond, _&&_, _||_}
 use mathlib.Core.List.{List, [], _∷_}

@@ -431,8 +431,8 @@ fn idle(rows: &Rows, r: &mut Random) -> [u8; 6] {
     step_on(r, group, index)
 }
 
-/// A step at the edge of what is accepted: AR14 is the last index, and AR the last group; SR07 and GR0F are the last that fit; a register without a writable bit, and the same with
-/// a value outside its mask.
+/// A step at the edge of what is accepted: AR14 is the last index, and AR the last group; SR07 and GR0F are the last that fit; a
+/// register without a writable bit, and the same with a value outside its mask.
 fn edge(rows: &Rows, r: &mut Random) -> [u8; 6] {
     let [_, group, index, ..] = idle(rows, r);
     match r.below(8) {
@@ -540,8 +540,8 @@ fn shortened(rows: &Rows, input: &str, file: &[u8], mut out: Vec<u8>, plain: (u8
 }
 
 /// These lists written, and as files checked, translated, shortened and played, by the library and by the model: the number and
-/// the step are the ones that are due, also where the output is too small, and a refusal changes no byte of the file, the commands
-/// or the state.
+/// the step are the ones that are due, also where the output is too small, and a refusal changes no byte of the file, the
+/// commands or the state.
 fn judged(rows: &Rows, r: &mut Random) -> usize {
     for (k, (steps, number, place)) in cases().iter().enumerate() {
         let list = steps.concat();
@@ -647,9 +647,9 @@ fn scripts(rows: &Rows, r: &mut Random, rounds: usize) -> ([Tally; 3], [usize; 2
     (tallies, shorter)
 }
 
-/// A file played on a state: what is left is what the commands do; registers, AR among them, and colours are what the steps say by
-/// name, after some of the steps too; and there is a picture if there was one. As many commands change something as in a run of
-/// those steps and one of the others after it. A refusal changes nothing, and closed ports refuse the first command. What the
+/// A file played on a state: what is left is what the commands do; registers, AR among them, and colours are what the steps say
+/// by name, after some of the steps too; and there is a picture if there was one. As many commands change something as in a run
+/// of those steps and one of the others after it. A refusal changes nothing, and closed ports refuse the first command. What the
 /// library returns.
 fn played(rows: &Rows, input: &str, s: &mut [u8], file: &[u8], commands: &mut [u8]) -> (u8, usize, usize, usize) {
     let mut expected = Vec::new();
@@ -762,8 +762,8 @@ const SHORT: [&str; 9] = [
 
 /// Shorter lists (document 02, P8), on states whose indexes and turn are stale and whose colour may be half loaded. After every
 /// number of steps, a run of the short commands of those steps leaves the state that the plain ones leave, to the byte, and as
-/// many of them change a register or a colour; registers, AR among them, colours and the picture are what those steps say by name.
-/// Closed ports refuse the first command. How often each of `SHORT` happened.
+/// many of them change a register or a colour; registers, AR among them, colours and the picture are what those steps say by
+/// name. Closed ports refuse the first command. How often each of `SHORT` happened.
 fn shorts(rows: &Rows, r: &mut Random, rounds: usize) -> [usize; SHORT.len()] {
     let (mut expected, mut met) = (Vec::new(), [0; SHORT.len()]);
     for round in 0..rounds {

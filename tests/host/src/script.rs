@@ -1,6 +1,6 @@
 //! Scripts, written from documents 01 and 02 (P1, P2, P5, P8): a file checked, a list of steps written as a file, a file
-//! translated into commands and into a shorter list of them, and where a step's commands begin. Each answers a number and a value.
-//! The commands of group 8 are those of docs/SCOPE.md, Commands.
+//! translated into commands and into a shorter list of them, and where a step's commands begin. Each answers a number and a
+//! value. The commands of group 8 are those of docs/SCOPE.md, Commands.
 
 use crate::model::Rows;
 
@@ -25,7 +25,8 @@ fn is_step(s: &[u8]) -> bool {
     }
 }
 
-/// Of one step 7 comes before 11, a SET or a FIELD whose register has no writable bit in its row, whatever the state; 0 is accepted.
+/// Of one step 7 comes before 11, a SET or a FIELD whose register has no writable bit in its row, whatever the state; 0 is
+/// accepted.
 fn judged(rows: &Rows, s: &[u8]) -> u8 {
     if !is_step(s) {
         7
@@ -127,9 +128,9 @@ fn out_held(port: u16) -> [u8; 4] {
     [4, port as u8, (port >> 8) as u8, 0]
 }
 
-/// The commands of a step; a pair is an index port and a data port, and MSR and PALMASK have a port to read and one to write. Before
-/// the attribute index is written, input status 1 is read at both its ports, one of which returns the turn, and bit 5 of the index
-/// is read, to be written again.
+/// The commands of a step; a pair is an index port and a data port, and MSR and PALMASK have a port to read and one to write.
+/// Before the attribute index is written, input status 1 is read at both its ports, one of which returns the turn, and bit 5 of
+/// the index is read, to be written again.
 fn expanded(s: &[u8]) -> Vec<[u8; 4]> {
     let pairs: &[u16] = match s[1] {
         0 => &[0x3B4, 0x3D4],
