@@ -134,12 +134,31 @@ static void look_at_script(const char *path, unsigned number, size_t value)
         fail("%s: %s (number %u)", path, meaning(number), number);
 }
 
+/* A host that shares its time out translates once instead, and runs the commands of some steps a call: it stops where a step's
+ * commands begin, since a run's accumulator starts at 0. The shorter list sends fewer commands, and after each step the state is
+ * the same. */
+static void play_by_turns(uint8_t *on, const uint8_t *file, size_t length, size_t steps, uint8_t *bytes)
+{
+    enum { STEPS_A_TURN = 16 };
+    size_t all, from, to, count, place, changing;
+    unsigned number = chips69000_translate_short(file, length, bytes, steps * STEP_ROOM, &all);
+
+    for (size_t step = 0; number == CHIPS69000_DONE && step < steps; step += STEPS_A_TURN) {
+        chips69000_short_step_commands(file, length, step, &from);
+        chips69000_short_step_commands(file, length, step + STEPS_A_TURN, &to);
+        number = chips69000_run(on, CHIPS69000_STATE_SIZE, bytes + 4 * from, 4 * (to - from), to - from, &count, &place,
+                                &changing);
+    }
+    if (number != CHIPS69000_DONE) fail("the shorter list: %s (number %u)", meaning(number), number);
+}
+
 /* Plays a script file on the state. Gives the numbers of its steps and of the commands that they became. */
 static void play(const char *path, size_t *steps, size_t *commands)
 {
     /* One byte more than the longest script, so that a longer file is seen to be longer, and refused. */
     static uint8_t file[BLOCKS * BLOCK + 1];
     static uint8_t bytes[STEPS * STEP_ROOM];
+    uint8_t by_turns[CHIPS69000_STATE_SIZE];
     size_t length, value, changing;
     unsigned number;
 
@@ -152,13 +171,16 @@ static void play(const char *path, size_t *steps, size_t *commands)
     number = chips69000_check_script(file, length, steps);
     look_at_script(path, number, *steps);
 
-    /* The commands need room, 32 bytes a step. After this call every register and colour is what the steps say by name. A host that
-     * shares its time out translates once instead, and runs so many commands a call. */
+    /* The commands need room, 32 bytes a step. After this call every register and colour is what the steps say by name. */
+    memcpy(by_turns, state, sizeof state);
     number = chips69000_play(state, sizeof state, file, length, bytes, *steps * STEP_ROOM, commands, &value, &changing);
     look_at_script(path, number, value);
 
     /* How many commands changed a register or a colour. None is no refusal, but whoever wrote the script will want to know. */
     if (changing == 0) fprintf(stderr, "host: %s: no command changed anything\n", path);
+
+    play_by_turns(by_turns, file, length, *steps, bytes);
+    if (memcmp(by_turns, state, sizeof state) != 0) fail("%s: the shorter list leaves another state", path);
 }
 
 /* The caption below is made for this picture, with a byte a pixel. The picture is the first part of video memory, line by line. */
