@@ -61,9 +61,6 @@ pub record Sends (P : Indexes → Type 0) (n : Named) (cs : List Command) (m : N
   pub runs : (x : Indexes) (l : Loading) (a : ℕ) → P x
       → (x′ : Indexes) × (l′ : Loading) × (a′ : ℕ) × Goes (join n x l) a cs (join m x′ l′) a′ k × Q x′
 
-abbrev pub Any : Indexes → Type 0
-Any x = Unit {0}
-
 -- these indexes and no others
 abbrev pub Is : Indexes → Indexes → Type 0
 Is y x = x ≡ y
@@ -103,13 +100,6 @@ sends-before {P} {Q} {R} {n} {m} {o} {cs} {ds} {k} s t = rw (add-zero k) at (sen
 
 pub sends-none : {P : Indexes → Type 0} (n : Named) → Sends P n [] n P 0
 sends-none n = record { runs = λ x l a p. (x, l, a, ended, p) }
-
--- more may be known before, and less afterwards
-pub sends-from : {P Q R : Indexes → Type 0} {n m : Named} {cs : List Command} {k : ℕ} → ((x : Indexes) → P x → Q x) → Sends Q n cs m R k → Sends P n cs m R k
-sends-from f s = record { runs = λ x l a p. s .runs x l a (f x p) }
-
-pub sends-any : {P Q : Indexes → Type 0} {n m : Named} {cs : List Command} {k : ℕ} → Sends P n cs m Q k → Sends P n cs m Any k
-sends-any s = record { runs = λ x l a p. let (x′, l′, a′, h, q) = s .runs x l a p in (x′, l′, a′, h, tt) }
 
 -- ---- what each kind of command does
 module _ (n : Named) (x : Indexes) (l : Loading) (a : ℕ) (free : portsOpen n ≡ true) (b : Bool) (picks : picks3Dx n ≡ b) (p : ℕ) where

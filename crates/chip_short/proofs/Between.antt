@@ -8,10 +8,9 @@ use mathlib.Core.Path.{_≡_, refl, sym, ap, _∙_}
 use mathlib.Core.List.{List, []}
 use lib.Dec.{eqb}
 use borrow.Author.Tests.{eqb-true, ne-eqb}
-use Rattle.chip_registers.specs.Groups.{numberOf, groupAt, is}
+use Rattle.chip_registers.specs.Groups.{groupAt, is}
 use Rattle.chip_registers.specs.Indexes.{indexKept}
 use Rattle.chip_registers.specs.declared.Group.{Group}
-use Rattle.chip_registers.specs.declared.Group.the-variants.{Ar}
 use Rattle.chip_registers.proofs.TableLaws.{number-grouped}
 use Rattle.chip.specs.State.{indexByte, withIndex}
 use Rattle.chip.specs.declared.Indexes.{Indexes}
@@ -22,7 +21,6 @@ use Rattle.script_commands.specs.Expansion.{ways, expanded}
 use Rattle.script_commands.specs.declared.Command.{Command}
 use Rattle.script_commands.specs.declared.Ways.{Ways}
 use Rattle.script_commands.specs.declared.Ways.the-variants.{Pair, Pairs, Direct, Turns, Nowhere}
-use Rattle.script_short.specs.Memory.{indexIn}
 use Rattle.script_short.proofs.ShortLaws.{past}
 use Rattle.script_short.proofs.Recalling.{Owns, owns, Recalled, RecalledFor, OfGroup, is-group, ways-none, sent-own, recalled-other, recalled-none}
 use Rattle.chip_play.proofs.StepsSent.{aimedBy, indexesAfter}

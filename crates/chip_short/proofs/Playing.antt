@@ -7,15 +7,14 @@ use mathlib.Core.List.{List, [], _∷_}
 use lib.ListN.{length}
 use Rattle.chip.specs.State.{Chip, named, join}
 use Rattle.chip.specs.Names.{portsOpen}
-use Rattle.script.specs.File.{stepCount, checked}
-use Rattle.script_commands.specs.Translation.{stepsTo, commandsTo, putBy}
+use Rattle.script_commands.specs.Translation.{stepsTo, commandsTo}
 use Rattle.script_commands.specs.declared.CommandRead.{CommandRead}
 use Rattle.script_commands.specs.declared.Translated.{Translated}
 use Rattle.script_short.specs.Short.{shortened, shortTo, shortTranslated, shortLeftBy}
 use Rattle.script_short.proofs.ShortLaws.{short-most, first-stays}
 use Rattle.chip_run.specs.Run.{altering, ranTo}
 use Rattle.chip_run.specs.declared.Ending.the-variants.{Ended}
-use Rattle.chip_run.proofs.RunLaws.{knowns, reads-bytes}
+use Rattle.chip_run.proofs.RunLaws.{reads-bytes}
 use Rattle.chip_play.specs.ByName.{appliedAll}
 use Rattle.chip_play.specs.Played.{Performance, runBy, ByName, ofOutcome, playTable}
 use Rattle.chip_play.proofs.Running.{run-whole}

@@ -10,11 +10,10 @@ use Rattle.chip_registers.specs.Groups.{groupAt}
 use Rattle.chip_registers.specs.Indexes.{indexKept}
 use Rattle.chip_registers.specs.declared.Group.{Group}
 use Rattle.chip_registers.specs.declared.Group.the-variants.{Cr, Sr, Gr, Xr, Fr, Mr, Msr, Palmask, Ar}
-use Rattle.chip_registers.proofs.IndexLaws.{kept-again}
 use Rattle.chip_ports.specs.Ports.{target}
 use Rattle.chip_ports.specs.declared.Target.the-variants.{Index, NotPicked}
 use Rattle.chip.specs.State.{Named, join, indexByte, withIndexByte, indexOf, withIndex}
-use Rattle.chip.specs.Names.{readByte, received, portsOpen, picks3Dx}
+use Rattle.chip.specs.Names.{readByte, portsOpen, picks3Dx}
 use Rattle.chip.specs.declared.Indexes.{Indexes}
 use Rattle.chip.specs.declared.Loading.{Loading}
 use Rattle.script_steps.specs.Step.{names, within, legal}

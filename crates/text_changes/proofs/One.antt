@@ -13,7 +13,6 @@ use lib.ListN.{length}
 use lib.Pow.{pow-pos}
 use borrow.Author.Tests.{eqb-true, leb-true}
 use Rattle.lists.specs.Scan.{every}
-use Rattle.lists.proofs.Scan.{every-at}
 use Rattle.chip_registers.specs.Groups.{numberOf, groupAt, isIndexed}
 use Rattle.chip_registers.specs.Indexes.{indexBits, indexKept}
 use Rattle.chip_registers.specs.declared.Group.{Group}

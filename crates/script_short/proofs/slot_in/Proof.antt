@@ -1,6 +1,5 @@
 -- By the kind of step.
 use borrow.Author.Needs.{needs}
-use native.Mathlib.Omega.{arith}
 use Rattle.script_short.proofs.slot_in.Statement.{statement}
 use Rattle.script_short.proofs.slot_in.Tie as tie
 
