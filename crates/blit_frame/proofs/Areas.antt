@@ -1,7 +1,7 @@
 -- The bytes of an area lie in memory where its two outermost do; and what an area in memory gives of each of its lines: where its
 -- lowest byte lies, where each of its bytes lies from there, and that the line fits. Assumes nothing.
 use mathlib.Core.Path.{◌≡◌, refl, sym, ap, ap₂, ◌∙◌}
-use mathlib.Core.Bool.{Bool, true, false, cond, not, ◌&&◌, ◌||◌, and_false}
+use mathlib.Core.Bool.{Bool, true, false, cond, not, ◌&&◌, ◌||◌, and-false}
 use mathlib.Core.Logic.{⊎_elim}
 use Prim.Native.Nat.{ℕ, ◌+◌, ◌-◌, ◌*◌, ◌%◌, ◌^◌, ◌≤◌, ◌<◌, zero-le}
 use native.Mathlib.Nat.{zero-mul, mul-le-mul_right, le_refl}
@@ -91,7 +91,7 @@ module _ (n : ℕ) (t : Transfer) (a : Area) (hw : 1 ≤ t.width) (hh : 1 ≤ t.
       let p4 = on_in (λ x. x * a.span) (zero-mul a.span) t.upward H in
       let hi : n ≤ place t a r c = omega arith in
       bytes_false t (within n t a) r c hr hc
-      (ap (λ (x : Bool). leb (behind t a r c) (a.address + ahead t a r c) && x) (le-ltb _ _ hi) ∙ and_false (leb (behind t a r c) (a.address + ahead t a r c)))
+      (ap (λ (x : Bool). leb (behind t a r c) (a.address + ahead t a r c) && x) (le-ltb _ _ hi) ∙ and-false (leb (behind t a r c) (a.address + ahead t a r c)))
 
   pub outermost : (leb (behind t a H W) a.address && ltb (a.address + ahead t a H W) n) ≡ every_byte t (within n t a)
   outermost =
@@ -261,7 +261,7 @@ module _ (n : ℕ) (t : Transfer) (a : Area) (hw : 1 ≤ t.width) (hh : 1 ≤ t.
   begins-out h =
       bytes_false t (within n t a) 0 0 hh hw
       (ap (λ (x : Bool). leb (behind t a 0 0) (a.address + ahead t a 0 0) && x) (le-ltb (place t a 0 0) n (rw first-place h))
-      ∙ and_false (leb (behind t a 0 0) (a.address + ahead t a 0 0)))
+      ∙ and-false (leb (behind t a 0 0) (a.address + ahead t a 0 0)))
 
 -- the same of the pattern
 module _ (n : ℕ) (t : Transfer) (hw : 1 ≤ t.width) (hh : 1 ≤ t.height) where

@@ -1,7 +1,7 @@
 -- Each number of a transfer is given exactly when document 01, "Numbers returned", says: 3, then 5, then 4, which is exact in
 -- both directions. Before that the laws of a test of every byte. Assumes nothing.
 use mathlib.Core.Path.{◌≡◌, refl, sym, ap, ◌∙◌}
-use mathlib.Core.Bool.{Bool, true, false, cond, not, ◌&&◌, ◌||◌, and_false, false≢true, true≢false}
+use mathlib.Core.Bool.{Bool, true, false, cond, not, ◌&&◌, ◌||◌, and-false, false≢true, true≢false}
 use mathlib.Core.Logic.{◌↔◌}
 use Prim.Native.Nat.{ℕ, ◌≤◌, ◌<◌, zero-le}
 use native.Mathlib.Decide.{ℕ_discrete}
@@ -75,10 +75,10 @@ outside_counts : (n : ℕ) (t : Transfer) → UsedOutside n t → is_in_memory n
 unfolding is_in_memory
 outside_counts n t (destination r c hr hc e) = rw (bytes_false t (within n t t.destination) r c hr hc e)
 outside_counts n t (source u r c hr hc e) =
-    rw (bytes_false t (within n t t.source) r c hr hc e, u) (ap (λ (b : Bool). b && (not (uses_pattern t.code) || every_byte t (λ r c. ltb (pattern_place t r c) n))) (and_false (every_byte t (within n t t.destination))))
+    rw (bytes_false t (within n t t.source) r c hr hc e, u) (ap (λ (b : Bool). b && (not (uses_pattern t.code) || every_byte t (λ r c. ltb (pattern_place t r c) n))) (and-false (every_byte t (within n t t.destination))))
 outside_counts n t (pattern u r c hr hc l) =
     rw (bytes_false t (λ r c. ltb (pattern_place t r c) n) r c hr hc (le-ltb _ _ l), u)
-    (and_false (every_byte t (within n t t.destination) && (not (uses_source t.code) || every_byte t (within n t t.source))))
+    (and-false (every_byte t (within n t t.destination) && (not (uses_source t.code) || every_byte t (within n t t.source))))
 
 -- how the tests lead to the number
 number : Bool → Bool → Bool → ℕ

@@ -3,7 +3,7 @@
 -- is off, and the blocks before it are as they were.
 use mathlib.Core.Path.{◌≡◌, sym, ap, ◌∙◌}
 use mathlib.Core.List.{List}
-use mathlib.Core.Bool.{Bool, true, false, and_false}
+use mathlib.Core.Bool.{Bool, true, false, and-false}
 use Prim.Native.Nat.{ℕ, ◌+◌, ◌-◌, ◌*◌, ◌/◌, ◌%◌, ◌<◌}
 use native.Mathlib.Omega.{arith}
 use lib.Dec.{eqb}
@@ -28,7 +28,7 @@ pub block-changed : (b : List ℕ) (k : ℕ) (last : Bool) → block_legal b k l
 unfolding block_legal
 block-changed b k last e i v hi hv ho ne k' last' =
     let r = legal_rules b k last e in
-    rw (check_changed b i v r.size hi hv ho ne r.sum, and_false)
+    rw (check_changed b i v r.size hi hv ho ne r.sum, and-false)
 
 -- ---- a file: byte i lies in block i / 512
 module _ (f : List ℕ) (m : ℕ) (acc : checked f ≡ Accepted m) (bytes : Bytes f) (i v : ℕ) (hi : i < length f) (hv : v < 256) (ne : v ≡ get_or f i 0 → ⊥) where

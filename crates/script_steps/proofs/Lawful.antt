@@ -3,7 +3,7 @@
 -- numbers. A step that can do nothing: an unlisted register, a listed one by its bits, and what does not
 -- matter. What a step comes to, each answer exactly when.
 use mathlib.Core.Path.{◌≡◌, refl, sym, ap, ◌∙◌}
-use mathlib.Core.Bool.{Bool, true, false, cond, not, ◌&&◌, ◌||◌, and_true, and_false}
+use mathlib.Core.Bool.{Bool, true, false, cond, not, ◌&&◌, ◌||◌, and-true, and-false}
 use Prim.Native.Nat.{ℕ, zero, suc, ◌*◌, ◌/◌, ◌%◌, ◌^◌, ◌≤◌, ◌<◌}
 use native.Mathlib.Nat.{pow-succ', div-div-eq-div-mul}
 use native.Mathlib.Omega.{arith}
@@ -33,7 +33,7 @@ unfolding names
 names-indexed g i h =
     let k : g < 8 = omega arith in
     let m : g < 9 = omega arith in
-    rw (lt-ltb _ _ m, lt-ltb _ _ k) (and_true (fits (group_at g) i))
+    rw (lt-ltb _ _ m, lt-ltb _ _ k) (and-true (fits (group_at g) i))
 
 pub names_sr : (index : ℕ) → names 1 index ≡ ltb index 0x08
 unfolding group_at fits
@@ -63,7 +63,7 @@ names_attribute i = go (ltb i 0x15) refl
   where
     go : (b : Bool) → ltb i 0x15 ≡ b → (ltb i 0x20 && b) ≡ b
     go true e = let h : i < 0x15 = ltb-true _ _ e in let k : i < 0x20 = omega arith in rw (lt-ltb _ _ k)
-    go false e = and_false (ltb i 0x20)
+    go false e = and-false (ltb i 0x20)
 
 pub names-none : (group index : ℕ) → 9 ≤ group → names group index ≡ false
 unfolding names
@@ -82,7 +82,7 @@ module _ (g i : ℕ) (named : names g i ≡ true) where
 -- ---- a FIELD with mask 00h is legal: it has no bit to say anything of
 pub field_no_mask : (group index : ℕ) → legal (Field group index 0 0) ≡ names group index
 unfolding legal
-field_no_mask g i = and_true (names g i)
+field_no_mask g i = and-true (names g i)
 
 -- ---- "value has no bit outside mask": at every place the value's bit is at most the mask's
 pub within_bits : (v m : ℕ) → within v m ≡ true → (k : ℕ) → bit k v ≤ bit k m
@@ -189,7 +189,7 @@ good_passes q s e = go (legal q) refl (idle q) refl
 module _ (g i : ℕ) (misfit : fits (group_at g) i ≡ false) where
   misfit_unnamed : names g i ≡ false
   unfolding names
-  misfit_unnamed = rw misfit (ap (λ (b : Bool). b && (ltb g 8 || ltb i 0x15)) (and_false (ltb g 9)))
+  misfit_unnamed = rw misfit (ap (λ (b : Bool). b && (ltb g 8 || ltb i 0x15)) (and-false (ltb g 9)))
 
   pub misfit_set : (v : ℕ) → judged (Set g i v) ≡ Refused Unallowed
   unfolding legal
