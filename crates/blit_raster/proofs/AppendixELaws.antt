@@ -9,11 +9,11 @@ use lib.Dec.{lit<, ltb}
 use lib.ListN.{length, get_or}
 use Rattle.lists.specs.Bits.{bit}
 use Rattle.lists.specs.Scan.{every}
-use Rattle.lists.proofs.Bits.{bit_small, zero_bit, bit-and, bit-or, bit-xor, bit_complement, agree, agree_at}
+use Rattle.lists.proofs.Bits.{zero_bit, bit-and, bit-or, bit-xor, bit_complement}
 use Rattle.lists.proofs.Scan.{every-at}
 use Rattle.blit_raster.specs.Raster.{index, raster}
 use Rattle.blit_raster.specs.AppendixE.{Operation, input, zeros, ones, not, ◌and◌, ◌or◌, ◌xor◌, value, inputs, printed}
-use Rattle.blit_raster.proofs.Laws.{raster-is, bit_of}
+use Rattle.blit_raster.proofs.Laws.{bit_small, raster-is, agree, agree_at, bit_of}
 
 -- an operation on bytes makes a byte, and each of its bits is that operation on the inputs' bits
 value_small : (at : ℕ → ℕ) → ((j : ℕ) → at j < 256) → (o : Operation) → value 255 at o < 256

@@ -6,14 +6,13 @@ use mathlib.Core.List.{[], ◌∷◌}
 use Prim.Native.Nat.{ℕ, ◌*◌, ◌/◌, ◌<◌, zero-le}
 use lib.Bits.{bit_or}
 use lib.ListN.{get_or}
-use Rattle.lists.specs.Bits.{bit, number}
+use Rattle.lists.specs.Bits.{bit}
 use Rattle.lists.specs.Scan.{every}
-use Rattle.lists.proofs.Bits.{two, bit_small, bit-number, number_small, agree, agree_at}
 use Rattle.lists.proofs.Scan.{every-at}
-use Rattle.blit_raster.specs.Raster.{raster}
+use Rattle.blit_raster.specs.Raster.{number, raster}
 use Rattle.blit_raster.specs.AppendixE.{Operation, input, not, ◌and◌, ◌or◌, P, S, D, value, inputs}
 use Rattle.blit_raster.proofs.AppendixELaws.{value-raster}
-use Rattle.blit_raster.proofs.Laws.{bit_of}
+use Rattle.blit_raster.proofs.Laws.{two, bit_small, bit-number, number_small, agree, agree_at, bit_of}
 
 -- the terms, with the code's bits as further inputs
 abbrev eight : Operation

@@ -1,9 +1,14 @@
 -- The raster code of document 01, "Video memory and block transfers", and of the databook's appendix E:
 -- for each bit, k = 4P + 2S + D and the result is bit k of the code. Also when a code depends on the source or the pattern.
 -- Bytes are numbers below 256. Their laws are in proofs/Laws.
-use Rattle.std.specs.Prelude.{ℕ, ◌+◌, ◌*◌, Bool, not, eqb}
+use Rattle.std.specs.Prelude.{ℕ, zero, suc, ◌+◌, ◌*◌, Bool, not, eqb}
 use Rattle.lists.specs.Scan.{every}
-use Rattle.lists.specs.Bits.{bit, number}
+use Rattle.lists.specs.Bits.{bit}
+
+-- the number of n bits whose bit i is f i
+unfoldable pub number : ℕ → (ℕ → ℕ) → ℕ
+number zero f = 0
+number (suc n) f = f 0 + 2 * number n (λ i. f (suc i))
 
 -- k = 4P + 2S + D
 abbrev pub index : ℕ → ℕ → ℕ → ℕ

@@ -4,8 +4,8 @@
 // Callers rely on the three public contracts alone, which say nothing of how the byte is worked out.
 
 ghost use Rattle.std.specs.Prelude.{◌≡◌, ◌<◌};
-ghost use Rattle.lists.specs.Bits.{bit, number};
-ghost use Rattle.blit_raster.specs.Raster.{raster, uses_source, uses_pattern};
+ghost use Rattle.lists.specs.Bits.{bit};
+ghost use Rattle.blit_raster.specs.Raster.{number, raster, uses_source, uses_pattern};
 
 // A byte with all its bits as bit k of the code.
 fn chosen(code: u8, k: u8) -> u8

@@ -18,10 +18,9 @@ use Rattle.chip.specs.Palette.{coloured, loaded, shown}
 use Rattle.chip.specs.Access.{port_written, port_read}
 use Rattle.chip.specs.Differ.{same_colour}
 use Rattle.chip.specs.Reset.{reset_byte, reset}
-use Rattle.blit_raster.specs.Raster.{raster, uses_source, uses_pattern}
+use Rattle.blit_raster.specs.Raster.{number, raster, uses_source, uses_pattern}
 use Rattle.blit_frame.specs.Frame.{in_range, is_in_memory}
 use Rattle.blit.specs.Transfer.{byte_done, in_turn, line_done, lines_done, transferred}
-use Rattle.lists.specs.Bits.{number}
 use Rattle.lists.specs.Scan.{first_not, every}
 use Rattle.lists.specs.Tab.{tab}
 use Rattle.script_steps.specs.Step.{names, legal, idle, judged, shaped, step_of, bytes_of}

@@ -22,7 +22,7 @@ use Rattle.chip.specs.declared.Rgb.{Rgb}
 use Rattle.chip.specs.declared.access.Answer.TheVariants.{Done, Closed}
 use Rattle.chip.proofs.NameLaws.{received_keeps_colours}
 use Rattle.chip.proofs.AccessLaws.{write_closed, write_open}
-use Rattle.chip.proofs.DifferLaws.{colour_self, unmoved, reached-differs, data_differs, paldata-differs, aimed_differs_not}
+use Rattle.chip.proofs.DifferLaws.{colour_self, unmoved, reached_differs, data_differs, paldata_differs, aimed_differs_not}
 use Rattle.cases.specs.Cases.{Row, changing, rows_hold_by, rows_hold}
 
 -- by the entry at the palette's index, and by the two bytes
@@ -50,7 +50,7 @@ module _ (c : Chip) where
       differ c w.chip ≡ tells_change c w
   by_turn v true =
       let i : ℕ = index_of Ar c.indexes in
-      by_bytes (told Ar i c (attribute_set c v)) (received_keeps_colours Ar (named c) i v) (reached-differs Ar c (attribute_set c v) v refl)
+      by_bytes (told Ar i c (attribute_set c v)) (received_keeps_colours Ar (named c) i v) (reached_differs Ar c (attribute_set c v) v refl)
   by_turn v false = by_bytes (untold Done (attribute_aimed c v)) refl (aimed_differs_not c v)
 
   and_true : (z : Bool) → z ≡ z && true
@@ -62,7 +62,7 @@ module _ (c : Chip) where
   by_target v h (Data g) = by_bytes (write_to (Data g) c v) (received_keeps_colours g (named c) (index_of g c.indexes) v) (data_differs g c v)
   by_target v h ReadIndex = by_none (write_to ReadIndex c v) refl refl
   by_target v h WriteIndex = by_none (write_to WriteIndex c v) refl refl
-  by_target v h Paldata = paldata-differs c v c.loading.index refl h ∙ ap not (and_true (same_here c (write_to Paldata c v).chip))
+  by_target v h Paldata = paldata_differs c v c.loading.index refl h ∙ ap not (and_true (same_here c (write_to Paldata c v).chip))
   by_target v h Attribute = by_turn v c.indexes.turn
   by_target v h Status = by_none (write_to Status c v) refl refl
   by_target v h NotPicked = by_none (write_to NotPicked c v) refl refl

@@ -14,7 +14,7 @@ use Rattle.chip_ports.specs.Ports.{target}
 use Rattle.chip_ports.specs.declared.Target.{Target}
 use Rattle.chip_ports.specs.declared.Target.TheVariants.{Index, Data, ReadIndex, WriteIndex, Paldata, Attribute, Status, NotPicked, NotListed}
 use Rattle.chip.specs.State.{Chip, Named, named, with_named, with_loading, with_picture, with_turn, index_of}
-use Rattle.chip.specs.Names.{register, read_byte, locked, writable_at, received, ports_open, picks3_dx}
+use Rattle.chip.specs.Names.{register, locked, writable_at, received, ports_open, picks3_dx}
 use Rattle.chip.specs.Palette.{loaded, coloured, moved}
 use Rattle.chip.specs.Attribute.{attribute_set, attribute_aimed, turn_returned}
 use Rattle.chip.specs.Access.{write_to, read_from, port_written, port_read, untold, told, seen}
@@ -46,7 +46,7 @@ module _ (c : Chip) (p : ℕ) (free : ports_open (named c) ≡ true) where
       → port_written c p v ≡ told g (index_of g c.indexes) c (with_named c (received g (named c) (index_of g c.indexes) v))
   write_data g v leads = write_open v ∙ rw leads refl
 
-  pub read_data : (g : Group) → target (picks3_dx (named c)) false p ≡ Data g → port_read c p ≡ seen Done (read_byte g (named c) (index_of g c.indexes)) c
+  pub read_data : (g : Group) → target (picks3_dx (named c)) false p ≡ Data g → port_read c p ≡ seen Done (register g (named c) (index_of g c.indexes)) c
   read_data g leads = read_open ∙ rw leads refl
 
 -- what holds of the state as it was, and of what a write makes of it at each target, holds after every port write

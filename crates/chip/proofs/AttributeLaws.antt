@@ -14,7 +14,6 @@ use Rattle.chip.specs.Attribute.{attribute_index, attribute_aimed, attribute_set
 use Rattle.chip.specs.Access.{Seen, Wrote, attribute_wrote, port_written, port_read, untold, told, seen}
 use Rattle.chip.specs.declared.access.Answer.TheVariants.{Done, Unlisted}
 use Rattle.chip.proofs.AccessLaws.{write_open, read_open}
-use Rattle.chip.proofs.ReadLaws.{read-stored}
 
 -- by the turn: the register at the index receives the byte, or the index is written
 pub attribute_data : (c : Chip) (v : ℕ) → c.indexes.turn ≡ true → attribute_wrote c v ≡ told Ar (index_of Ar c.indexes) c (attribute_set c v)
@@ -40,7 +39,7 @@ module _ (c : Chip) (free : ports_open (named c) ≡ true) where
 
   pub attribute_data-read : port_read c 0x3C1 ≡ seen Done (register Ar (named c) (index_of Ar c.indexes)) c
   unfolding target ports
-  attribute_data-read = read_open c 0x3C1 free ∙ ap (λ (b : ℕ). seen Done b c) (read-stored Ar (named c) (index_of Ar c.indexes) refl)
+  attribute_data-read = read_open c 0x3C1 free
 
   -- input status 1 is read at 3DAh or 3BAh, by MSR bit 0; the other port reads FFh
   pub status_read : (b : Bool) → picks3_dx (named c) ≡ b → port_read c (cond b 0x3DA 0x3BA) ≡ seen Done 0x00 (turn_returned c)

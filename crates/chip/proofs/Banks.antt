@@ -1,11 +1,10 @@
 -- The registers of a group as one list, its bank: a table, or the one byte of MSR or PALMASK. What a register's byte is and what
 -- replacing one does, said over the bank and for every group at once; the laws of names rest on these two equations. Then that
--- colours, the picture and the latches are in no bank.
+-- colours and the picture are in no bank.
 use Rattle.std.proofs.Common.{◌≡◌, ℕ, ◌<◌, Bool, true, false, cond, List, [], ◌∷◌, get_or, set, refl, arith, eq-eqb}
 use Rattle.chip_registers.specs.Groups.{number_of, is, is_indexed}
 use Rattle.chip_registers.specs.declared.Group.{Group}
 use Rattle.chip_registers.specs.declared.Group.TheVariants.{Cr, Sr, Gr, Xr, Fr, Mr, Msr, Palmask, Ar}
-use Rattle.planes.specs.declared.Latches.{Latches}
 use Rattle.chip.specs.State.{Named, same_registers}
 use Rattle.chip.specs.Names.{register, replaced}
 use Rattle.chip.specs.declared.Rgb.{Rgb}
@@ -62,16 +61,16 @@ bank-replaced Msr g n i b = one_byte (is g Msr) n.msr b
 bank-replaced Palmask g n i b = one_byte (is g Palmask) n.palmask b
 bank-replaced Ar g n i b = refl
 
-pub bank-same : (h : Group) (n : Named) (colours : List Rgb) (lit : Bool) (l : Latches) → bank h (same_registers n colours lit l) ≡ bank h n
-bank-same Cr n colours lit l = refl
-bank-same Sr n colours lit l = refl
-bank-same Gr n colours lit l = refl
-bank-same Xr n colours lit l = refl
-bank-same Fr n colours lit l = refl
-bank-same Mr n colours lit l = refl
-bank-same Msr n colours lit l = refl
-bank-same Palmask n colours lit l = refl
-bank-same Ar n colours lit l = refl
+pub bank-same : (h : Group) (n : Named) (colours : List Rgb) (lit : Bool) → bank h (same_registers n colours lit) ≡ bank h n
+bank-same Cr n colours lit = refl
+bank-same Sr n colours lit = refl
+bank-same Gr n colours lit = refl
+bank-same Xr n colours lit = refl
+bank-same Fr n colours lit = refl
+bank-same Mr n colours lit = refl
+bank-same Msr n colours lit = refl
+bank-same Palmask n colours lit = refl
+bank-same Ar n colours lit = refl
 
 pub is_self : (g : Group) → is g g ≡ true
 is_self g = eq-eqb (number_of g) (number_of g) refl

@@ -12,7 +12,7 @@ use Rattle.chip_registers.specs.Groups.{number_of, group_at, is}
 use Rattle.chip_registers.proofs.TableLaws.{group_numbered, number_few, is_same}
 use Rattle.chip_registers.proofs.IndexLaws.{kept_byte}
 use Rattle.chip_registers.specs.declared.Group.{Group}
-use Rattle.chip_registers.specs.declared.Group.TheVariants.{Cr, Ar}
+use Rattle.chip_registers.specs.declared.Group.TheVariants.{Ar}
 use Rattle.chip_ports.specs.Ports.{target}
 use Rattle.chip_ports.specs.declared.Target.{Target}
 use Rattle.chip_ports.specs.declared.Target.TheVariants.{Index, Data, ReadIndex, WriteIndex, Paldata, Attribute, Status, NotPicked, NotListed}
@@ -31,7 +31,6 @@ use Rattle.chip.proofs.NameLaws.{received_other, received_keeps_colours, coloure
 use Rattle.chip.proofs.PaletteLaws.{coloured_other}
 use Rattle.chip.proofs.AccessLaws.{write_closed, write_open, write_data, read_keeps_all}
 use Rattle.chip.proofs.NumberLaws.{refused, write_number}
-use Rattle.chip.proofs.ReadLaws.{read_other, read_same}
 
 -- two tests that hold together are one
 as_one : (a b : Bool) → (a ≡ true → b ≡ true) → (b ≡ true → a ≡ true) → a ≡ b
@@ -149,45 +148,28 @@ picture_same_stored n lit = same-stored n (with_picture n lit) (record { registe
 pub read_differs_not : (c : Chip) (p : ℕ) → differ c (port_read c p).chip ≡ false
 read_differs_not c p = unmoved c (port_read c p).chip (read_keeps_all c p).0
 
-pub received-differs : (g : Group) (c : Chip) (i v : ℕ) → i < 256
+pub received_differs : (g : Group) (c : Chip) (i v : ℕ) → i < 256
     → differ c (with_named c (received g (named c) i v)) ≡ not (eqb (register g (named c) i) (register g (received g (named c) i v) i))
 unfolding differ
-received-differs g c i v h = ap not (received_same-stored g (named c) i v h)
+received_differs g c i v h = ap not (received_same-stored g (named c) i v h)
 
 -- .. and so does any state with what that leaves of the register at a group's index
-pub reached-differs : (g : Group) (c d : Chip) (v : ℕ) → named d ≡ received g (named c) (index_of g c.indexes) v
+pub reached_differs : (g : Group) (c d : Chip) (v : ℕ) → named d ≡ received g (named c) (index_of g c.indexes) v
     → differ c d ≡ not (eqb (register g (named c) (index_of g c.indexes)) (register g (named d) (index_of g c.indexes)))
-reached-differs g c d v is =
+reached_differs g c d v is =
     differ-named c d (with_named c (received g (named c) (index_of g c.indexes) v)) is
-    ∙ received-differs g c (index_of g c.indexes) v (kept_byte g (index_byte g c.indexes)) ∙ rw is refl
+    ∙ received_differs g c (index_of g c.indexes) v (kept_byte g (index_byte g c.indexes)) ∙ rw is refl
 
--- where two bytes are told the state differs; where one is told twice it does not, if CR22, which stores nothing, holds a byte
-pub told_other_differs : (g : Group) (c d : Chip) (v : ℕ) → named d ≡ received g (named c) (index_of g c.indexes) v
-    → (read_byte g (named c) (index_of g c.indexes) ≡ read_byte g (named d) (index_of g c.indexes) → ⊥) → differ c d ≡ true
-told_other_differs g c d v is other =
-    let i : ℕ = index_of g c.indexes in
-    reached-differs g c d v is ∙ ap not (ne_eqb (register g (named c) i) (register g (named d) i) (rw is (read_other g (named c) i v (rw is at other))))
-
-pub told_same_differs_not : (g : Group) (c d : Chip) (v : ℕ) → register Cr (named c) 0x22 < 0x100 → named d ≡ received g (named c) (index_of g c.indexes) v
-    → read_byte g (named c) (index_of g c.indexes) ≡ read_byte g (named d) (index_of g c.indexes) → differ c d ≡ false
-told_same_differs_not g c d v h is same =
-    let i : ℕ = index_of g c.indexes in
-    reached-differs g c d v is ∙ ap not (eq-eqb (register g (named c) i) (register g (named d) i) (rw is (read_same g (named c) i v h (rw is at same))))
-
--- so a data write differs exactly where it hands back two bytes
-pub data_differs : (g : Group) (c : Chip) (v : ℕ) → register Cr (named c) 0x22 < 0x100
+-- a data write differs exactly where it hands back two bytes
+pub data_differs : (g : Group) (c : Chip) (v : ℕ)
     → differ c (write_to (Data g) c v).chip ≡ not (eqb (write_to (Data g) c v).before (write_to (Data g) c v).after)
-data_differs g c v h = go (eqb (write_to (Data g) c v).before (write_to (Data g) c v).after) refl
-  where
-    go : (z : Bool) → eqb (write_to (Data g) c v).before (write_to (Data g) c v).after ≡ z → differ c (write_to (Data g) c v).chip ≡ not z
-    go true e = told_same_differs_not g c (write_to (Data g) c v).chip v h refl (eqb-true _ _ e)
-    go false e = told_other_differs g c (write_to (Data g) c v).chip v refl (eqb-false _ _ e)
+data_differs g c v = reached_differs g c (write_to (Data g) c v).chip v refl
 
 -- so does a byte to PALDATA where the entry at the index does
-pub paldata-differs : (c : Chip) (v e : ℕ) → c.loading.index ≡ e → e < 256
+pub paldata_differs : (c : Chip) (v e : ℕ) → c.loading.index ≡ e → e < 256
     → differ c (write_to Paldata c v).chip ≡ not (same_colour (entry (named c) e) (entry (named (write_to Paldata c v).chip) e))
 unfolding differ
-paldata-differs c v e is h =
+paldata_differs c v e is h =
     let below : c.loading.index < 256 = omega arith in
     ap not (loaded-same_stored (named c) c.loading v below)
     ∙ ap (λ (x : ℕ). not (same_colour (entry (named c) x) (entry (named (write_to Paldata c v).chip) x))) is
@@ -220,33 +202,33 @@ pub data_told : (g : Group) (c : Chip) (v : ℕ)
 data_told g c v = (refl, refl)
 
 -- a write that hands back two bytes, at whatever port, changed the register
-target-differs : (t : Target) (c : Chip) (v : ℕ) → ((write_to t c v).before ≡ (write_to t c v).after → ⊥) → differ c (write_to t c v).chip ≡ true
-target-differs (Index g) c v other = absurd (other refl)
-target-differs (Data g) c v other = told_other_differs g c (write_to (Data g) c v).chip v refl other
-target-differs ReadIndex c v other = absurd (other refl)
-target-differs WriteIndex c v other = absurd (other refl)
-target-differs Paldata c v other = absurd (other refl)
-target-differs Attribute c v other = go c.indexes.turn other
+target_differs : (t : Target) (c : Chip) (v : ℕ) → ((write_to t c v).before ≡ (write_to t c v).after → ⊥) → differ c (write_to t c v).chip ≡ true
+target_differs (Index g) c v other = absurd (other refl)
+target_differs (Data g) c v other = data_differs g c v ∙ ap not (ne_eqb _ _ other)
+target_differs ReadIndex c v other = absurd (other refl)
+target_differs WriteIndex c v other = absurd (other refl)
+target_differs Paldata c v other = absurd (other refl)
+target_differs Attribute c v other = go c.indexes.turn other
   where
     by : Bool → Wrote
     by z = cond z (told Ar (index_of Ar c.indexes) c (attribute_set c v)) (untold Done (attribute_aimed c v))
 
     go : (z : Bool) → ((by z).before ≡ (by z).after → ⊥) → differ c (by z).chip ≡ true
-    go true h = told_other_differs Ar c (attribute_set c v) v refl h
+    go true h = reached_differs Ar c (attribute_set c v) v refl ∙ ap not (ne_eqb _ _ h)
     go false h = absurd (h refl)
-target-differs Status c v other = absurd (other refl)
-target-differs NotPicked c v other = absurd (other refl)
-target-differs NotListed c v other = absurd (other refl)
+target_differs Status c v other = absurd (other refl)
+target_differs NotPicked c v other = absurd (other refl)
+target_differs NotListed c v other = absurd (other refl)
 
-pub told-differs : (c : Chip) (p v : ℕ) → ((port_written c p v).before ≡ (port_written c p v).after → ⊥) → differ c (port_written c p v).chip ≡ true
+pub told_differs : (c : Chip) (p v : ℕ) → ((port_written c p v).before ≡ (port_written c p v).after → ⊥) → differ c (port_written c p v).chip ≡ true
 unfolding port_written
-told-differs c p v other = go (ports_open (named c)) other
+told_differs c p v other = go (ports_open (named c)) other
   where
     by : Bool → Wrote
     by z = cond z (write_to (target (picks3_dx (named c)) true p) c v) (untold Closed c)
 
     go : (z : Bool) → ((by z).before ≡ (by z).after → ⊥) → differ c (by z).chip ≡ true
-    go true h = target-differs (target (picks3_dx (named c)) true p) c v h
+    go true h = target_differs (target (picks3_dx (named c)) true p) c v h
     go false h = absurd (h refl)
 
 -- what is told at a port that leads to a register: its byte as it reads before the write, and in the state that the write leaves

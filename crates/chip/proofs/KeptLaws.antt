@@ -12,16 +12,15 @@ use Rattle.chip_registers.specs.declared.Group.TheVariants.{Cr, Sr, Gr, Xr, Fr, 
 use Rattle.chip_registers.proofs.TableLaws.{is_same}
 use Rattle.chip_registers.proofs.RowLaws.{stands, slot-one, nowhere_unlisted, group_on, index_on, index_on_lem, each-slot}
 use Rattle.chip_registers.proofs.WriteLaws.{written_none}
-use Rattle.planes.specs.declared.Latches.{Latches}
-use Rattle.chip.specs.State.{Chip, Named, named, with_latches, index_of}
+use Rattle.chip.specs.State.{Chip, Named, named, index_of}
 use Rattle.chip.specs.Names.{register, locked, received}
 use Rattle.chip.specs.Access.{port_written, port_read}
 use Rattle.chip.specs.Reset.{reset_byte, reset}
-use Rattle.chip.specs.Reach.{Reach, fresh, wrote, saw, looked}
+use Rattle.chip.specs.Reach.{Reach, fresh, wrote, saw}
 use Rattle.chip.specs.View.{in_row, view, Shows}
 use Rattle.chip.specs.declared.Chip.{Chip as Kept}
-use Rattle.chip.proofs.Banks.{bank, room, place-room, bank-same}
-use Rattle.chip.proofs.NameLaws.{Has, received-same, received_other, coloured_keeps_register, picture_keeps_register, latches_keep_register}
+use Rattle.chip.proofs.Banks.{bank, room, place-room}
+use Rattle.chip.proofs.NameLaws.{Has, received-same, received_other, coloured_keeps_register, picture_keeps_register}
 use Rattle.chip.proofs.AccessLaws.{named-written, read_keeps_all}
 use Rattle.chip.proofs.ResetLaws.{bank-reset, register-reset, reset_unlisted}
 use Rattle.chip.proofs.SizeLaws.{length-written}
@@ -35,7 +34,6 @@ kept c = record {
   palmask = c.palmask;
   picture = c.picture;
   palette = c.palette;
-  latches = c.latches;
   indexes = c.indexes;
   loading = c.loading;
 }
@@ -78,7 +76,6 @@ module _ (c : Chip) (r : Rowable (named c)) where
       palmask = c.palmask;
       picture = c.picture;
       palette = c.palette;
-      latches = c.latches;
       indexes = c.indexes;
       loading = c.loading;
     };
@@ -143,18 +140,11 @@ written_rowable c p v r = record {
 pub read_rowable : (c : Chip) (p : ℕ) → Rowable (named c) → Rowable (named (port_read c p).chip)
 read_rowable c p r = rw (read_keeps_all c p).0 r
 
-pub latches_rowable : (n : Named) (l : Latches) → Rowable n → Rowable (with_latches n l)
-latches_rowable n l r = record {
-  sizes = λ g. ap length (bank-same g n n.palette n.picture l) ∙ r.sizes g;
-  unlisted = λ g i h none. latches_keep_register g n l i ∙ r.unlisted g i h none;
-}
-
 -- every state that accesses reach is matched
 pub reached_rowable : {first second : ℕ} {c : Chip} → Reach first second c → Rowable (named c)
 reached_rowable {first} {second} fresh = reset_rowable first second
 reached_rowable (wrote {c} p v hv r) = written_rowable c p v (reached_rowable r)
 reached_rowable (saw {c} p r) = read_rowable c p (reached_rowable r)
-reached_rowable (looked {c} m o hm r) = latches_rowable (named c) _ (reached_rowable r)
 
 pub reached-shown : {first second : ℕ} {c : Chip} → Reach first second c → Shows (kept c) c
 reached-shown {c = c} r = kept_shows c (reached_rowable r)

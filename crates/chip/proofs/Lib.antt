@@ -1,4 +1,4 @@
--- The laws of this crate: of names (NameLaws), accesses (AccessLaws), what a register reads as (ReadLaws), numbers (NumberLaws), indexes (IndexLaws), the attribute
+-- The laws of this crate: of names (NameLaws), accesses (AccessLaws), numbers (NumberLaws), indexes (IndexLaws), the attribute
 -- port (AttributeLaws), the palette by ports (PaletteLaws) and its index (PaletteIndexLaws), the colour shown (ShownLaws), the
 -- reset (ResetLaws), sizes (SizeLaws), reached states (ReachLaws), what is kept and shown of a state (ViewLaws), and which states
 -- are shown (KeptLaws), and whether an access changed a register or a colour (DifferLaws). Banks, Reached and Places are for
@@ -19,5 +19,4 @@ pub mod SizeLaws
 pub mod ViewLaws
 pub mod KeptLaws
 pub mod DifferLaws
-pub mod ReadLaws
 pub mod Places

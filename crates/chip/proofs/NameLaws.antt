@@ -1,17 +1,15 @@
 -- The laws of reading and writing by name, for every group at once: a register that received a byte, the other registers, the
 -- colours, and which bits can change at all. Layers above cite these and not the tables.
 use Rattle.std.proofs.Common.{◌≡◌, ℕ, zero, suc, ◌<◌, Bool, true, false, cond, eqb, List, [], ◌∷◌, length, get_or, set, sym, refl, ap, ◌∙◌, get_or-set_other, get_or-set_same, eqb-true}
-use lib.Seq.{set-get_or}
 use borrow.Author.Tests.{eqb-false}
 use Rattle.lists.specs.Bits.{bit, is_set}
 use Rattle.chip_registers.specs.Groups.{number_of, is, row_of}
 use Rattle.chip_registers.specs.WriteRule.{left_open, writable_now, written}
 use Rattle.chip_registers.proofs.TableLaws.{is_same}
-use Rattle.chip_registers.proofs.WriteLaws.{bit-written, written_byte, written_none, byte_now}
+use Rattle.chip_registers.proofs.WriteLaws.{bit-written, written_byte, byte_now}
 use Rattle.chip_registers.specs.declared.Group.{Group}
 use Rattle.chip_registers.specs.declared.Group.TheVariants.{Cr, Sr, Gr, Xr, Fr, Mr, Msr, Palmask, Ar}
-use Rattle.planes.specs.declared.Latches.{Latches}
-use Rattle.chip.specs.State.{Named, same_registers, with_picture, with_latches}
+use Rattle.chip.specs.State.{Named, same_registers, with_picture}
 use Rattle.chip.specs.Names.{register, replaced, locked, writable_at, received}
 use Rattle.chip.specs.Palette.{coloured}
 use Rattle.chip.specs.declared.Rgb.{Rgb}
@@ -132,34 +130,14 @@ pub received_keeps_colours : (g : Group) (n : Named) (i v : ℕ) → (received g
 unfolding received
 received_keeps_colours g n i v = refl
 
--- other colours, another picture and other latches leave every register; so does storing a colour
-register-same : (h : Group) (n : Named) (colours : List Rgb) (lit : Bool) (l : Latches) (i : ℕ)
-    → register h (same_registers n colours lit l) i ≡ register h n i
-register-same h n colours lit l i =
-    register-bank h (same_registers n colours lit l) i ∙ ap (λ (b : List ℕ). get_or b (place h i) 0) (bank-same h n colours lit l) ∙ sym (register-bank h n i)
+-- other colours and another picture leave every register; so does storing a colour
+register-same : (h : Group) (n : Named) (colours : List Rgb) (lit : Bool) (i : ℕ) → register h (same_registers n colours lit) i ≡ register h n i
+register-same h n colours lit i =
+    register-bank h (same_registers n colours lit) i ∙ ap (λ (l : List ℕ). get_or l (place h i) 0) (bank-same h n colours lit) ∙ sym (register-bank h n i)
 
 pub coloured_keeps_register : (h : Group) (n : Named) (e r g b i : ℕ) → register h (coloured n e r g b) i ≡ register h n i
 unfolding coloured
-coloured_keeps_register h n e r g b i = register-same h n _ n.picture n.latches i
+coloured_keeps_register h n e r g b i = register-same h n _ n.picture i
 
 pub picture_keeps_register : (h : Group) (n : Named) (lit : Bool) (i : ℕ) → register h (with_picture n lit) i ≡ register h n i
-picture_keeps_register h n lit i = register-same h n n.palette lit n.latches i
-
-pub latches_keep_register : (h : Group) (n : Named) (l : Latches) (i : ℕ) → register h (with_latches n l) i ≡ register h n i
-latches_keep_register h n l i = register-same h n n.palette n.picture l i
-
--- a register replaced by its own byte; so one without a writable bit that holds a byte keeps everything
-pub replaced_itself : (g : Group) (n : Named) (i : ℕ) → replaced g n i (register g n i) ≡ n
-replaced_itself Cr n i = rw (set-get_or n.cr i 0)
-replaced_itself Sr n i = rw (set-get_or n.sr i 0)
-replaced_itself Gr n i = rw (set-get_or n.gr i 0)
-replaced_itself Xr n i = rw (set-get_or n.xr i 0)
-replaced_itself Fr n i = rw (set-get_or n.fr i 0)
-replaced_itself Mr n i = rw (set-get_or n.mr i 0)
-replaced_itself Msr n i = refl
-replaced_itself Palmask n i = refl
-replaced_itself Ar n i = rw (set-get_or n.ar i 0)
-
-pub received-nothing : (g : Group) (n : Named) (i v : ℕ) → writable_at g n i ≡ 0x00 → register g n i < 0x100 → received g n i v ≡ n
-unfolding received
-received-nothing g n i v none h = ap (replaced g n i) (ap (written (register g n i) v) none ∙ written_none (register g n i) v h) ∙ replaced_itself g n i
+picture_keeps_register h n lit i = register-same h n n.palette lit i

@@ -17,7 +17,7 @@ use Rattle.chip.specs.Reset.{reset_byte}
 use Rattle.chip.specs.View.{in_row, view, number_at, Filled}
 use Rattle.chip.specs.declared.Chip.{Chip as Kept}
 use Rattle.chip.proofs.ResetLaws.{reset_unlisted}
-use Rattle.chip.proofs.ViewLaws.{with_row, shown-at, received-at, received-nowhere}
+use Rattle.chip.proofs.ViewLaws.{with_row, shown-at, received-at, received_nowhere}
 
 at_inj : {j k : ℕ} → At j ≡ At k → j ≡ k
 at_inj e = ap number_at e
@@ -32,9 +32,9 @@ module _ (g : Group) (i : ℕ) (h : i < 256) where
       go Nowhere e = refl
 
   -- the byte that says where a register stands: below 128 it is none
-  pub stands-nowhere : standing_of g i < 128 → row_size ≡ number_at (slot_of g i)
+  pub stands_nowhere : standing_of g i < 128 → row_size ≡ number_at (slot_of g i)
   unfolding standing_of
-  stands-nowhere low = go (is_indexed g) (slot_of g i) low
+  stands_nowhere low = go (is_indexed g) (slot_of g i) low
     where
       go : (z : Bool) (s : Slot) → cond z (standing (before g) s) 128 < 128 → row_size ≡ number_at s
       go true (At k) l = absurd (omega arith)
@@ -74,8 +74,8 @@ module _ (f : Kept) (g : Group) (i k : ℕ) (h : i < 256) (e : k ≡ number_at (
       let s : slot_of g i ≡ At k = slot_at g i h (rw e at w) ∙ ap At (sym e) in
       sym (shown-at g f i h (stands g i k h s).listed ∙ ap (in_row f.row) s)
 
-  pub read-nowhere : is_indexed g ≡ true → row_size ≤ k → 0x00 ≡ register g (named (view f)) i
-  read-nowhere x w = sym (shown-at g f i h x ∙ ap (in_row f.row) (slot-none g i h (rw e at w)))
+  pub read_nowhere : is_indexed g ≡ true → row_size ≤ k → 0x00 ≡ register g (named (view f)) i
+  read_nowhere x w = sym (shown-at g f i h x ∙ ap (in_row f.row) (slot-none g i h (rw e at w)))
 
   -- and so it receives a byte
   pub put-there : (v b m : ℕ) → length f.row ≡ row_size → k < row_size → m ≡ writable_now g (locked g (named (view f))) i
@@ -84,8 +84,8 @@ module _ (f : Kept) (g : Group) (i k : ℕ) (h : i < 256) (e : k ≡ number_at (
       let s : slot_of g i ≡ At k = slot_at g i h (rw e at w) ∙ ap At (sym e) in
       rw made (received-at g f i k v m h n s mask)
 
-  pub put-nowhere : (v : ℕ) → is_indexed g ≡ true → row_size ≤ k → view f ≡ with_named (view f) (received g (named (view f)) i v)
-  put-nowhere v x w = sym (received-nowhere g f i v h x (slot-none g i h (rw e at w)))
+  pub put_nowhere : (v : ℕ) → is_indexed g ≡ true → row_size ≤ k → view f ≡ with_named (view f) (received g (named (view f)) i v)
+  put_nowhere v x w = sym (received_nowhere g f i v h x (slot-none g i h (rw e at w)))
 
 -- MSR and PALMASK are read and receive a byte in their fields
 module _ (f : Kept) where
@@ -98,13 +98,13 @@ module _ (f : Kept) where
   read-palmask = refl
 
   pub put-msr : (g : Group) → g ≡ Msr → (i v b m : ℕ) → m ≡ writable_now g (locked g (named (view f))) i → b ≡ written f.msr v m
-      → view (record { row = f.row; msr = b; palmask = f.palmask; picture = f.picture; palette = f.palette; latches = f.latches; indexes = f.indexes; loading = f.loading })
+      → view (record { row = f.row; msr = b; palmask = f.palmask; picture = f.picture; palette = f.palette; indexes = f.indexes; loading = f.loading })
       ≡ with_named (view f) (received g (named (view f)) i v)
   unfolding view received
   put-msr g e i v b m mask made = rw (made, mask, e)
 
   pub put-palmask : (g : Group) → g ≡ Palmask → (i v b m : ℕ) → m ≡ writable_now g (locked g (named (view f))) i → b ≡ written f.palmask v m
-      → view (record { row = f.row; msr = f.msr; palmask = b; picture = f.picture; palette = f.palette; latches = f.latches; indexes = f.indexes; loading = f.loading })
+      → view (record { row = f.row; msr = f.msr; palmask = b; picture = f.picture; palette = f.palette; indexes = f.indexes; loading = f.loading })
       ≡ with_named (view f) (received g (named (view f)) i v)
   unfolding view received
   put-palmask g e i v b m mask made = rw (made, mask, e)

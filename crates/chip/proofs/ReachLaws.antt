@@ -15,9 +15,9 @@ use Rattle.chip.specs.State.{Chip, Named, named}
 use Rattle.chip.specs.Names.{register, locked, writable_at, ports_open}
 use Rattle.chip.specs.Access.{port_written}
 use Rattle.chip.specs.Reset.{reset_byte}
-use Rattle.chip.specs.Reach.{Reach, fresh, wrote, saw, looked}
+use Rattle.chip.specs.Reach.{Reach, fresh, wrote, saw}
 use Rattle.chip.proofs.AccessLaws.{write_keeps_bit, write_bytes, read_keeps_all}
-use Rattle.chip.proofs.NameLaws.{Bytes, latches_keep_register}
+use Rattle.chip.proofs.NameLaws.{Bytes}
 use Rattle.chip.proofs.ResetLaws.{register-reset, reset-bytes, xr_pins_reset}
 
 -- bits that are not writable keep the value of the reset
@@ -28,7 +28,6 @@ fixed_bits (wrote {c} port v hv r) g i k hi hk shut =
     write_keeps_bit c port v k g i hk (locked_fewer k g (locked g (named c)) i shut) ∙ fixed_bits r g i k hi hk shut
 fixed_bits (saw {c} port r) g i k hi hk shut =
     ap (λ (n : Named). bit k (register g n i)) (read_keeps_all c port).0 ∙ fixed_bits r g i k hi hk shut
-fixed_bits (looked {c} m o hm r) g i k hi hk shut = ap (bit k) (latches_keep_register g (named c) _ i) ∙ fixed_bits r g i k hi hk shut
 
 -- the rows that show pins have no writable bit
 xr_pins_fixed : (writable_of Xr 0x08 ≡ 0x00) × (writable_of Xr 0x70 ≡ 0x00) × (writable_of Xr 0x71 ≡ 0x00)
@@ -60,7 +59,6 @@ pub reach_bytes : {first second : ℕ} {c : Chip} → first < 0x100 → second <
 reach_bytes {first} {second} hp hq fresh = reset-bytes first second hp hq
 reach_bytes hp hq (wrote {c} port v hv r) = write_bytes c port v hv (reach_bytes hp hq r)
 reach_bytes hp hq (saw {c} port r) = rw (read_keeps_all c port).0 (reach_bytes hp hq r)
-reach_bytes hp hq (looked {c} m o hm r) = λ g i. rw (latches_keep_register g (named c) _ i) (reach_bytes hp hq r g i)
 
 -- a register without a writable bit at this moment stays whole, whatever is written to whatever port
 pub shut_stays : {first second : ℕ} {c : Chip} → first < 0x100 → second < 0x100 → Reach first second c → (p v : ℕ) → v < 0x100

@@ -23,7 +23,7 @@ use Rattle.chip.specs.Palette.{rgb, by_mode, entry, coloured, held, moved}
 use Rattle.chip.specs.Attribute.{attribute_set, attribute_aimed}
 use Rattle.chip.specs.Access.{Seen, write_to, port_written, told, untold}
 use Rattle.chip.specs.Reset.{reset_byte, reset}
-use Rattle.chip.specs.Reach.{Reach, fresh, wrote, saw, looked}
+use Rattle.chip.specs.Reach.{Reach, fresh, wrote, saw}
 use Rattle.chip.specs.declared.access.Answer.TheVariants.{Done}
 use Rattle.chip.specs.declared.Indexes.{Indexes}
 use Rattle.chip.specs.declared.Loading.{Loading}
@@ -53,7 +53,7 @@ pub length-written : (h : Group) (c : Chip) (p v : ℕ) → length (bank h (name
 unfolding coloured
 length-written h c p v =
     named-written (λ n. length (bank h n) ≡ length (bank h (named c))) c v refl
-    (λ g. length-received h g (named c) (index_of g c.indexes) v) (λ e r g b. ap length (bank-same h (named c) _ c.picture c.latches)) (λ b. ap length (bank-same h (named c) c.palette b c.latches)) p
+    (λ g. length-received h g (named c) (index_of g c.indexes) v) (λ e r g b. ap length (bank-same h (named c) _ c.picture)) (λ b. ap length (bank-same h (named c) c.palette b)) p
 
 pub length_palette_written : (c : Chip) (p v : ℕ) → length (port_written c p v).chip.palette ≡ length c.palette
 unfolding received
@@ -65,7 +65,6 @@ reach_room : {first second : ℕ} {c : Chip} → Reach first second c → (g : G
 reach_room {first} {second} fresh g = ap length (bank-reset first second g) ∙ tab-length (reset_byte first second g) (room g)
 reach_room (wrote {c} p v hv r) g = length-written g c p v ∙ reach_room r g
 reach_room (saw {c} p r) g = ap (λ (n : Named). length (bank g n)) (read_keeps_all c p).0 ∙ reach_room r g
-reach_room (looked {c} m o hm r) g = ap length (bank-same g (named c) c.palette c.picture _) ∙ reach_room r g
 
 pub reach_has : {first second : ℕ} {c : Chip} → Reach first second c → (g : Group) (i : ℕ) → i < 0x100 → Has g (named c) i
 reach_has r g i h = rw (reach_room r g) (place-room g i h)
@@ -75,7 +74,6 @@ unfolding reset
 reach_palette fresh = length-replicate 256 (rgb 0 0 0)
 reach_palette (wrote {c} p v hv r) = length_palette_written c p v ∙ reach_palette r
 reach_palette (saw {c} p r) = ap (λ (n : Named). length n.palette) (read_keeps_all c p).0 ∙ reach_palette r
-reach_palette (looked {c} m o hm r) = reach_palette r
 
 -- the bytes that hold the seven indexes have no bit that their index registers do not keep, and the palette's index does not pass
 -- 255
@@ -142,7 +140,6 @@ reach_within (saw {c} p r) =
     let w = reach_within r in
     state_read Within c p w (record { groups = w.groups; colours = moved_below c.loading w.colours })
     (record { groups = λ h. rw (index_turn h c.indexes false) (w.groups h); colours = w.colours })
-reach_within (looked {c} m o hm r) = let w = reach_within r in record { groups = w.groups; colours = w.colours }
 
 -- so the byte that holds an index is the index
 pub reach_kept : {first second : ℕ} {c : Chip} → Reach first second c → (g : Group) → index_of g c.indexes ≡ index_byte g c.indexes

@@ -15,12 +15,12 @@ use Rattle.chip_registers.specs.declared.Group.{Group}
 use Rattle.chip_registers.specs.declared.Group.TheVariants.{Cr, Sr, Gr, Xr, Fr, Mr, Msr, Palmask, Ar}
 use Rattle.chip_registers.proofs.TableLaws.{every_group, is_same}
 use Rattle.chip_registers.proofs.RowLaws.{stands, slot-one, nowhere_unlisted, unlisted_nowhere, group_on, index_on, index_on_lem, each-slot}
+use Rattle.chip_registers.proofs.WriteLaws.{written_none}
 use Rattle.chip.specs.State.{Chip, Named, named, with_named, with_picture}
 use Rattle.chip.specs.Names.{register, replaced, locked, received}
 use Rattle.chip.specs.View.{in_row, table_from, view, Shows}
 use Rattle.chip.specs.declared.Chip.{Chip as Kept}
 use Rattle.chip.proofs.Banks.{is_self}
-use Rattle.chip.proofs.NameLaws.{received-nothing}
 
 -- ---- a register of the row
 
@@ -73,7 +73,7 @@ unlisted_shows_00 g f i h e = go (is_indexed g) refl
 
 -- what is beside the row is shown as it is kept
 pub picture_shown : (f : Kept) (lit : Bool)
-    → view (record { row = f.row; msr = f.msr; palmask = f.palmask; picture = lit; palette = f.palette; latches = f.latches; indexes = f.indexes; loading = f.loading })
+    → view (record { row = f.row; msr = f.msr; palmask = f.palmask; picture = lit; palette = f.palette; indexes = f.indexes; loading = f.loading })
     ≡ with_named (view f) (with_picture (named (view f)) lit)
 unfolding view
 picture_shown f lit = refl
@@ -81,10 +81,6 @@ picture_shown f lit = refl
 pub loading_shown : (f : Kept) → (view f).loading ≡ f.loading
 unfolding view
 loading_shown f = refl
-
-pub latches-shown : (f : Kept) → (view f).latches ≡ f.latches
-unfolding view
-latches-shown f = refl
 
 pub indexes-shown : (f : Kept) → (view f).indexes ≡ f.indexes
 unfolding view
@@ -100,7 +96,6 @@ with_row k r = record {
   palmask = k.palmask;
   picture = k.picture;
   palette = k.palette;
-  latches = k.latches;
   indexes = k.indexes;
   loading = k.loading;
 }
@@ -160,7 +155,6 @@ row-set g f i k b h n e =
       palmask = sym (ap (λ (z : Bool). cond z b f.palmask) not-palmask) t;
       picture = f.picture;
       palette = f.palette;
-      latches = f.latches;
       indexes = f.indexes;
       loading = f.loading;
     }
@@ -174,6 +168,23 @@ received-at g f i k v m h n e w =
     row-set g f i k (written (get_or f.row k 0) v m) h n e
     ∙ rw (w, shown-at g f i h (stands g i k h e).listed, e)
 
+-- a byte replaced by itself, and a register
+pub set_itself : (l : List ℕ) (k : ℕ) → set l k (get_or l k 0) ≡ l
+set_itself [] k = refl
+set_itself (x ∷ l) zero = refl
+set_itself (x ∷ l) (suc k) = ap (λ (t : List ℕ). x ∷ t) (set_itself l k)
+
+replaced_itself : (g : Group) (n : Named) (i : ℕ) → replaced g n i (register g n i) ≡ n
+replaced_itself Cr n i = rw (set_itself n.cr i)
+replaced_itself Sr n i = rw (set_itself n.sr i)
+replaced_itself Gr n i = rw (set_itself n.gr i)
+replaced_itself Xr n i = rw (set_itself n.xr i)
+replaced_itself Fr n i = rw (set_itself n.fr i)
+replaced_itself Mr n i = rw (set_itself n.mr i)
+replaced_itself Msr n i = refl
+replaced_itself Palmask n i = refl
+replaced_itself Ar n i = rw (set_itself n.ar i)
+
 -- an unlisted index has no bit that can be written, and keeps its 00h: a byte that it receives changes nothing
 pub none_writable : (g : Group) (on : Bool) (i : ℕ) → row_of g i ≡ Unlisted → writable_now g on i ≡ 0x00
 unfolding writable_now
@@ -183,12 +194,15 @@ none_writable g on i none = rw (ap writable_in none) (go on)
     go true = and_zero_l (left_open g i)
     go false = refl
 
-pub received-nowhere : (g : Group) (f : Kept) (i v : ℕ) → i < 256 → is_indexed g ≡ true → slot_of g i ≡ Nowhere
+pub received_nowhere : (g : Group) (f : Kept) (i v : ℕ) → i < 256 → is_indexed g ≡ true → slot_of g i ≡ Nowhere
     → with_named (view f) (received g (named (view f)) i v) ≡ view f
-received-nowhere g f i v h x e =
+unfolding received
+received_nowhere g f i v h x e =
     let old : register g (named (view f)) i ≡ 0x00 = shown-at g f i h x ∙ ap (in_row f.row) e in
-    ap (with_named (view f))
-    (received-nothing g (named (view f)) i v (none_writable g (locked g (named (view f))) i (nowhere_unlisted g i h x e)) (omega arith))
+    let below : 0x00 < 0x100 = omega arith in
+    let same : written (register g (named (view f)) i) v (writable_now g (locked g (named (view f))) i) ≡ register g (named (view f)) i =
+    rw (none_writable g (locked g (named (view f))) i (nowhere_unlisted g i h x e), old) (written_none 0x00 v below) in
+    ap (λ (b : ℕ). with_named (view f) (replaced g (named (view f)) i b)) same ∙ ap (with_named (view f)) (replaced_itself g (named (view f)) i)
 
 -- ---- what is shown decides what is kept
 same_row : (e f : Kept) → length e.row ≡ row_size → length f.row ≡ row_size → view e ≡ view f → e.row ≡ f.row
@@ -205,7 +219,6 @@ view_decides e f m n p = λ i. record {
   palmask = (p i).palmask;
   picture = (p i).picture;
   palette = (p i).palette;
-  latches = (p i).latches;
   indexes = (p i).indexes;
   loading = (p i).loading;
 }

@@ -1,13 +1,12 @@
 -- Reading and writing a register by name: by group and index, whatever any index register holds. Document 01, "Registers",
 -- and "Scripts" for the word: a register that receives a byte is written by name, protection included.
 -- What layers above may use of this are the laws in proofs/NameLaws, not the tables.
-use Rattle.std.specs.Prelude.{ℕ, Bool, cond, ◌&&◌, ◌==◌, slice_index, slice_set}
+use Rattle.std.specs.Prelude.{ℕ, Bool, cond, slice_index, slice_set}
 use Rattle.lists.specs.Bits.{is_set}
 use Rattle.chip_registers.specs.Groups.{is}
 use Rattle.chip_registers.specs.WriteRule.{locked_by, writable_now, written}
 use Rattle.chip_registers.specs.declared.Group.{Group}
 use Rattle.chip_registers.specs.declared.Group.TheVariants.{Cr, Sr, Gr, Xr, Fr, Mr, Msr, Palmask, Ar}
-use Rattle.planes.specs.Planes.{latch, read_plane}
 use Rattle.chip.specs.State.{Named}
 
 -- the byte of a register: a read shows stored bits
@@ -22,18 +21,10 @@ register Msr n i = n.msr
 register Palmask n i = n.palmask
 register Ar n i = slice_index n.ar i
 
--- the latch of the plane that GR04 picks: chapter 9, CR22
-abbrev pub latch_read : Named → ℕ
-latch_read n = latch n.latches (read_plane (register Gr n 0x04))
-
--- which register reads as a latch
-abbrev pub reads_latch : Group → ℕ → Bool
-reads_latch g i = is g Cr && i == 0x22
-
--- what a register reads as: CR22 a latch (document 02, P9), every other register its stored bits. A definition that asks what is
--- read says this, one that asks what is stored says `register`; nothing is stored in CR22, which has no writable bit
-unfoldable pub read_byte : Group → Named → ℕ → ℕ
-read_byte g n i = cond (reads_latch g i) (latch_read n) (register g n i)
+-- what a register reads as: its stored bits, in every register. A definition that asks what is read says this, one that asks what
+-- is stored says `register`
+abbrev pub read_byte : Group → Named → ℕ → ℕ
+read_byte g n i = register g n i
 
 -- the same with one register's byte replaced
 abbrev pub replaced : Group → Named → ℕ → ℕ → Named
@@ -49,7 +40,6 @@ replaced g n i b = record {
   palmask = cond (is g Palmask) b n.palmask;
   picture = n.picture;
   palette = n.palette;
-  latches = n.latches;
 }
 
 -- whether a group's registers are under a lock: CR11's protection, and for AR the picture

@@ -18,7 +18,7 @@ abbrev pub entry : Named → ℕ → Rgb
 entry n e = slice_index_or n.palette e (rgb 0 0 0)
 
 abbrev pub with_palette : Named → List Rgb → Named
-with_palette n colours = same_registers n colours n.picture n.latches
+with_palette n colours = same_registers n colours n.picture
 
 -- an entry is stored, by the mode at that moment
 unfoldable pub coloured : Named → ℕ → ℕ → ℕ → ℕ → Named

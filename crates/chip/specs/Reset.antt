@@ -4,7 +4,7 @@
 -- GR and XR the databook says so where it has their index registers (chapters 9, 10, 11 and 14), and for FR and MR, whose index
 -- registers have no page, it is document 01's rule that a reset bit that is not given is 0 (HOUSE). Document 02, P1: the turn of
 -- 3C0h is the index's; chapter 12 gives the attribute index no reset, so all of it is 0 by the same rule (HOUSE), and there is no
--- picture. Document 02, P9: the latches are 0 by the same rule, and CR22 reads 00h.
+-- picture.
 use Rattle.std.specs.Prelude.{ℕ, false, cond, replicate, ◌==◌, bit_and, bit_or}
 use Rattle.lists.specs.Tab.{tab}
 use Rattle.chip_registers.specs.Groups.{is, reset_of}
@@ -36,7 +36,6 @@ reset first second = record {
   palmask = reset_byte first second Palmask 0x00;
   picture = false;
   palette = replicate 256 (rgb 0 0 0);
-  latches = record { plane0 = 0; plane1 = 0; plane2 = 0; plane3 = 0 };
   indexes = record { cr = 0; sr = 0; gr = 0; xr = 0; fr = 0; mr = 0; ar = 0; turn = false };
   loading = record { index = 0; position = 0; red = 0; green = 0; reading = false };
 }

@@ -1,13 +1,11 @@
--- The state in two parts: what has a name (registers and colours, bit 5 of the attribute index, which decides whether there is a
--- picture, and the four memory read latches, which CR22 reads), and the rest (the seven indexes, the turn of 3C0h, the palette's
--- loading state). Document 01, "Ports": the chip state; document 02, P1 and P9: what the attribute registers and the planar window
--- add. Every access is said as a change of these parts.
+-- The state in two parts: what has a name (registers and colours, and bit 5 of the attribute index, which decides whether there
+-- is a picture), and the rest (the seven indexes, the turn of 3C0h, the palette's loading state). Document 01, "Ports": the chip
+-- state; document 02, P1: what the attribute registers add. Every access is said as a change of these parts.
 use Rattle.std.specs.Prelude.{ℕ, Bool, cond, List}
 use Rattle.chip_registers.specs.Groups.{is}
 use Rattle.chip_registers.specs.Indexes.{index_kept}
 use Rattle.chip_registers.specs.declared.Group.{Group}
 use Rattle.chip_registers.specs.declared.Group.TheVariants.{Cr, Sr, Gr, Xr, Fr, Mr, Msr, Palmask, Ar}
-use Rattle.planes.specs.declared.Latches.{Latches}
 use Rattle.chip.specs.declared.Rgb.{Rgb}
 use Rattle.chip.specs.declared.Indexes.{Indexes}
 use Rattle.chip.specs.declared.Loading.{Loading}
@@ -25,7 +23,6 @@ pub record Chip : Type 0 where
   pub palmask : ℕ
   pub picture : Bool
   pub palette : List Rgb
-  pub latches : Latches
   pub indexes : Indexes
   pub loading : Loading
 
@@ -42,7 +39,6 @@ pub record Named : Type 0 where
   pub palmask : ℕ
   pub picture : Bool
   pub palette : List Rgb
-  pub latches : Latches
 
 abbrev pub named : Chip → Named
 named c = record {
@@ -57,7 +53,6 @@ named c = record {
   palmask = c.palmask;
   picture = c.picture;
   palette = c.palette;
-  latches = c.latches;
 }
 
 -- a state from its parts
@@ -74,7 +69,6 @@ join n x l = record {
   palmask = n.palmask;
   picture = n.picture;
   palette = n.palette;
-  latches = n.latches;
   indexes = x;
   loading = l;
 }
@@ -88,9 +82,9 @@ with_indexes c x = join (named c) x c.loading
 abbrev pub with_loading : Chip → Loading → Chip
 with_loading c l = join (named c) c.indexes l
 
--- the same registers, with these colours, this bit 5 of the attribute index and these latches
-abbrev pub same_registers : Named → List Rgb → Bool → Latches → Named
-same_registers n colours lit latches = record {
+-- the same registers, with these colours and this bit 5 of the attribute index
+abbrev pub same_registers : Named → List Rgb → Bool → Named
+same_registers n colours lit = record {
   cr = n.cr;
   sr = n.sr;
   gr = n.gr;
@@ -102,14 +96,10 @@ same_registers n colours lit latches = record {
   palmask = n.palmask;
   picture = lit;
   palette = colours;
-  latches = latches;
 }
 
 abbrev pub with_picture : Named → Bool → Named
-with_picture n lit = same_registers n n.palette lit n.latches
-
-abbrev pub with_latches : Named → Latches → Named
-with_latches n latches = same_registers n n.palette n.picture latches
+with_picture n lit = same_registers n n.palette lit
 
 -- the byte that holds a group's index; MSR and PALMASK have none, and stand at 0
 abbrev pub index_byte : Group → Indexes → ℕ

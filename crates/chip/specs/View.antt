@@ -44,7 +44,6 @@ view k = record {
   palmask = k.palmask;
   picture = k.picture;
   palette = k.palette;
-  latches = k.latches;
   indexes = k.indexes;
   loading = k.loading;
 }

@@ -106,20 +106,19 @@ impl Chip {
         self
     }
 
-    // A register receives a byte, and its byte before and after is told, as it reads; it changed where what is stored did.
+    // A register receives a byte, and its byte before and after is told.
     pub fn write_data(self, g: Group, i: u8, v: u8) -> Wrote
         ensures result_value { view_wrote result ≡ told g i (view self) (with_named (view self) (received g (named (view self)) i v)) }
         ensures changed_value { result.changed ≡ differ (view self) (with_named (view self) (received g (named (view self)) i v)) }
     {
-        let before = self.read_named(g, i);
+        let before = self.get(g, i);
         let next = self.put(g, i, v);
-        let after = next.read_named(g, i);
-        let changed = self.get(g, i) != next.get(g, i);
+        let after = next.get(g, i);
         Wrote {
             answer: Answer::Done,
             before,
             after,
-            changed,
+            changed: before != after,
             chip: next,
         }
     }
@@ -169,7 +168,7 @@ impl Chip {
             },
             Target::Data(g) => Seen {
                 answer: Answer::Done,
-                value: self.read_named(g, self.index(g)),
+                value: self.get(g, self.index(g)),
                 chip: self,
             },
             Target::ReadIndex => Seen {

@@ -5,14 +5,13 @@
 ghost use Rattle.std.specs.Prelude.{◌≡◌, ◌≤◌, if◌then◌else◌};
 ghost use Rattle.chip_registers.specs.Groups.{is_indexed};
 ghost use Rattle.chip_registers.specs.Row.{before, slot_of, row_size};
-ghost use Rattle.chip.specs.State.{named, with_named, with_latches};
-ghost use Rattle.chip.specs.Names.{register, reads_latch, read_byte, locked as lockedOf, received, ports_open, picks3_dx, eight_bit};
+ghost use Rattle.chip.specs.State.{named, with_named};
+ghost use Rattle.chip.specs.Names.{register, locked as lockedOf, received, ports_open, picks3_dx, eight_bit};
 ghost use Rattle.chip.specs.Reset.{reset_byte, reset as reset_of};
 ghost use Rattle.chip.specs.View.{view, number_at, Filled};
 
 use chip_masks::standing;
 use chip_registers::{Group, group_at, locked_by, reset_byte, writable_now, write};
-use planes::{Latches, latch_picked};
 
 pub mod access;
 pub mod attribute;
@@ -55,7 +54,7 @@ pub struct Loading {
 }
 
 // What is kept of the state: the listed registers in one row, in the order of the tables and of their indexes
-// (document 02, P7). The picture is bit 5 of the attribute index; the latches are those of the planar window (P9).
+// (document 02, P7). The picture is bit 5 of the attribute index.
 #[derive(Drop)]
 pub struct Chip {
     pub row: [u8; 275],
@@ -63,7 +62,6 @@ pub struct Chip {
     pub palmask: u8,
     pub picture: bool,
     pub palette: [Rgb; 256],
-    pub latches: Latches,
     pub indexes: Indexes,
     pub loading: Loading,
 }
@@ -144,23 +142,6 @@ fn fill(first: u8, second: u8) -> [u8; 275]
     row
 }
 
-// Whether a register reads as a latch, and not as its byte: CR22 does.
-fn reads_latch(g: Group, i: u8) -> bool
-    ensures { result ≡ reads_latch g i }
-{
-    match g {
-        Group::Cr => i == 0x22,
-        Group::Sr => false,
-        Group::Gr => false,
-        Group::Xr => false,
-        Group::Fr => false,
-        Group::Mr => false,
-        Group::Msr => false,
-        Group::Palmask => false,
-        Group::Ar => false,
-    }
-}
-
 impl Chip {
     // The chip after a reset that lends two pin bytes, whatever it held.
     pub fn reset(self, first: u8, second: u8) -> Chip
@@ -187,12 +168,6 @@ impl Chip {
             palmask,
             picture: false,
             palette: [black; 256],
-            latches: Latches {
-                plane0: 0,
-                plane1: 0,
-                plane2: 0,
-                plane3: 0,
-            },
             indexes: Indexes {
                 cr: 0,
                 sr: 0,
@@ -232,24 +207,6 @@ impl Chip {
             Group::Palmask => self.palmask,
             Group::Ar => 0x00,
         }
-    }
-
-    // What a register reads as, by name: CR22 is the latch of the plane that GR04 picks.
-    pub fn read_named(self, g: Group, i: u8) -> u8
-        ensures { result ≡ read_byte g (named (view self)) i }
-    {
-        if reads_latch(g, i) {
-            return latch_picked(self.latches, self.get(Group::Gr, 0x04));
-        }
-        self.get(g, i)
-    }
-
-    // The state with other latches.
-    pub fn with_latches(mut self, l: Latches) -> Chip
-        ensures { view result ≡ with_named (view self) (with_latches (named (view self)) l) }
-    {
-        self.latches = l;
-        self
     }
 
     // Whether a group's registers are under a lock.

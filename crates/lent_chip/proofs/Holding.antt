@@ -1,8 +1,7 @@
 -- Bytes that hold a chip, and hold another after a store: each store as one step from `Holds` to `Holds`, so that a function of
 -- several stores is a chain of them. The spare bits stay, since only the byte of flags has them.
-use Rattle.std.proofs.Common.{◌≡◌, ℕ, zero, suc, ◌+◌, ◌*◌, ◌/◌, ◌%◌, ◌<◌, Bool, true, false, cond, eqb, List, length, get_or, set, sym, refl, ap, ◌∙◌, arith, length-set, get_or-set_other, get_or-set_same}
+use Rattle.std.proofs.Common.{◌≡◌, ℕ, ◌+◌, ◌*◌, ◌/◌, ◌%◌, ◌<◌, Bool, true, false, cond, eqb, List, length, get_or, set, sym, refl, ap, ◌∙◌, arith, length-set, get_or-set_other, get_or-set_same}
 use lib.Bits.{bit_and, and_comm, and_le_l, and_mask, and_mod}
-use lib.Seq.{set-get_or}
 use Rattle.lists.specs.Bits.{is_set}
 use Rattle.chip_registers.specs.Groups.{is_indexed}
 use Rattle.chip_registers.specs.Indexes.{index_kept}
@@ -13,15 +12,13 @@ use Rattle.chip_registers.specs.declared.Group.TheVariants.{Msr, Palmask, Ar}
 use Rattle.chip_registers.proofs.WriteLaws.{written_none}
 use Rattle.chip_masks.specs.Table.{standing_of}
 use Rattle.chip_registers.proofs.RowLaws.{nowhere_unlisted}
-use Rattle.planes.specs.Planes.{latch}
-use Rattle.planes.specs.declared.Latches.{Latches}
-use Rattle.chip.specs.State.{Chip, named, join, with_named, with_indexes, with_loading, with_picture, with_latches, with_turn}
+use Rattle.chip.specs.State.{Chip, named, join, with_named, with_indexes, with_loading, with_picture, with_turn}
 use Rattle.chip.specs.Names.{locked, received}
 use Rattle.chip.specs.Attribute.{attribute_aimed}
 use Rattle.chip.specs.Palette.{rgb, entry, with_palette, component}
 use Rattle.chip.specs.View.{view as shown_by}
-use Rattle.chip.proofs.ViewLaws.{with_row, received-at, received-nowhere, none_writable}
-use Rattle.lent_chip.specs.Layout.{MSR, PALMASK, AR_INDEX, INDEX, POSITION, FLAGS, LATCHES, PALETTE, ROW, whole, laid, view, spare, base_of, place_of, third_of, Holds}
+use Rattle.chip.proofs.ViewLaws.{with_row, received-at, received_nowhere, none_writable, set_itself}
+use Rattle.lent_chip.specs.Layout.{MSR, PALMASK, AR_INDEX, INDEX, POSITION, FLAGS, PALETTE, ROW, whole, laid, view, spare, base_of, place_of, third_of, Holds}
 use Rattle.lent_chip.proofs.Flags.{below_two, tested, reading-put, turn_put, picture_put}
 use Rattle.lent_chip.proofs.Stores.{single, set_single, set-row, row-length, row_at, set_colour, get_colour, Where, InRow, IsMsr, IsPalmask, Unlisted, where_is}
 
@@ -37,41 +34,12 @@ spare-stays : (l : List ℕ) (k v : ℕ) → (FLAGS ≡ k → ⊥) → spare (se
 unfolding spare
 spare-stays l k v n = rw (get_or-set_other l k FLAGS v 0 n)
 
-then_stored : {l : List ℕ} {c : Chip} {b : ℕ} (k v : ℕ) → Holds l c b → k < PALETTE → (FLAGS ≡ k → ⊥) → Holds (set l k v) (single c k v) b
-then_stored {l} k v h w other = record {
-  size = length-set l k v ∙ h.size;
-  chip = set_single l k v h.size w ∙ ap (λ (d : Chip). single d k v) h.chip;
-  spare = spare-stays l k v other ∙ h.spare;
-}
-
 pub then_single : {l : List ℕ} {c : Chip} {b : ℕ} (k v : ℕ) → Holds l c b → k < FLAGS → Holds (set l k v) (single c k v) b
-then_single k v h w = then_stored k v h (omega arith) (λ e. omega arith)
-
--- the four latches are stored
-pub then_latches : {l : List ℕ} {c : Chip} {b : ℕ} (x : Latches) → Holds l c b
-    → Holds (set (set (set (set l LATCHES x.plane0) (LATCHES + 1) x.plane1) (LATCHES + 2) x.plane2) (LATCHES + 3) x.plane3) (with_named c (with_latches (named c) x)) b
-then_latches x h =
-    then_stored (LATCHES + 3) x.plane3
-    (then_stored (LATCHES + 2) x.plane2
-    (then_stored (LATCHES + 1) x.plane1
-    (then_stored LATCHES x.plane0 h (omega arith) (λ e. omega arith)) (omega arith) (λ e. omega arith)) (omega arith) (λ e. omega arith)) (omega arith) (λ e. omega arith)
-
--- they are read where they are
-pub latches-held : (l : List ℕ)
-    → record { plane0 = get_or l LATCHES 0; plane1 = get_or l (LATCHES + 1) 0; plane2 = get_or l (LATCHES + 2) 0; plane3 = get_or l (LATCHES + 3) 0 } ≡ (view l).latches
-unfolding view shown_by laid
-latches-held l = refl
-
-pub latch-held : (l : List ℕ) (p : ℕ) → p < 4 → latch (view l).latches p ≡ get_or l (LATCHES + p) 0
-unfolding view shown_by laid
-latch-held l zero h = refl
-latch-held l (suc zero) h = refl
-latch-held l (suc (suc zero)) h = refl
-latch-held l (suc (suc (suc zero))) h = refl
-latch-held l (suc (suc (suc (suc p)))) h = absurd (few p h)
-  where
-    few : (p : ℕ) → suc (suc (suc (suc p))) < 4 → ⊥
-    few p h = omega arith
+then_single {l} k v h w = record {
+  size = length-set l k v ∙ h.size;
+  chip = set_single l k v h.size (omega arith) ∙ ap (λ (d : Chip). single d k v) h.chip;
+  spare = spare-stays l k v (λ e. omega arith) ∙ h.spare;
+}
 
 -- the byte of flags is stored, its spare bits as they were
 abbrev marked : Chip → Bool → Bool → Bool → Chip
@@ -179,7 +147,7 @@ module _ (l : List ℕ) (i v m : ℕ) (n : length l ≡ whole) (h : i < 256) whe
   unfolding view
   nowhere g p x e byte mask =
       let same : written (get_or l p 0) v m ≡ get_or l p 0 = rw (mask, none_writable g (locked g (named (view l))) i (nowhere_unlisted g i h x e)) (written_none (get_or l p 0) v byte) in
-      rw (same, set-get_or l p 0) (now_holds (as_it_is n) (sym (received-nowhere g (laid l) i v h x e)))
+      rw (same, set_itself l p) (now_holds (as_it_is n) (sym (received_nowhere g (laid l) i v h x e)))
 
   pub then_received : (g : Group) → get_or l (place_of g i) 0 < 256 → m ≡ writable_now g (locked g (named (view l))) i
       → Holds (set l (place_of g i) (written (get_or l (place_of g i) 0) v m)) (with_named (view l) (received g (named (view l)) i v)) (spare l)

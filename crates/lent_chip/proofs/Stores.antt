@@ -1,4 +1,4 @@
--- A store of one byte, as a change of what bytes keep, and so of the chip that they hold: a single byte or a latch, a place of the row, or
+-- A store of one byte, as a change of what bytes keep, and so of the chip that they hold: a single byte, a place of the row, or
 -- the three bytes of an entry. The regions follow one another, so each store leaves the other two as they were. Then where a
 -- register's byte is and what is read there, by name; the argument over the groups is crate `chip`'s (ViewLaws).
 use Rattle.std.proofs.Common.{◌≡◌, ℕ, ◌+◌, ◌-◌, ◌*◌, ◌/◌, ◌%◌, ◌<◌, Bool, true, false, cond, eqb, List, length, get_or, set, sym, refl, ap, ◌∙◌, true≢false, arith, length-set, get_or-set_other, get_or-set_same, eqb-true}
@@ -17,11 +17,11 @@ use Rattle.chip.specs.Palette.{rgb, entry, with_palette}
 use Rattle.chip.specs.View.{in_row, view as shown_by}
 use Rattle.chip.specs.declared.Chip.{Chip as Kept}
 use Rattle.chip.proofs.ViewLaws.{with_row, shown-at}
-use Rattle.lent_chip.specs.Layout.{MSR, PALMASK, CR_INDEX, SR_INDEX, GR_INDEX, XR_INDEX, FR_INDEX, MR_INDEX, AR_INDEX, INDEX, POSITION, RED, GREEN, FLAGS, LATCHES, PALETTE, ROW, whole, colour_in, laid, view, base_of, place_of}
+use Rattle.lent_chip.specs.Layout.{MSR, PALMASK, CR_INDEX, SR_INDEX, GR_INDEX, XR_INDEX, FR_INDEX, MR_INDEX, AR_INDEX, INDEX, POSITION, RED, GREEN, FLAGS, PALETTE, ROW, whole, colour_in, laid, view, base_of, place_of}
 
 -- the regions follow one another and fill a state
-pub regions_fill : (FLAGS + 1 ≡ LATCHES) × (LATCHES + 4 ≡ PALETTE) × (PALETTE + 3 * 256 ≡ ROW) × (ROW + row_size ≡ whole)
-regions_fill = (refl, refl, refl, refl)
+pub regions_fill : (FLAGS + 1 ≡ PALETTE) × (PALETTE + 3 * 256 ≡ ROW) × (ROW + row_size ≡ whole)
+regions_fill = (refl, refl, refl)
 
 -- a byte after a store
 after : (l : List ℕ) (k v j : ℕ) → k < length l → get_or (set l k v) j 0 ≡ cond (eqb j k) v (get_or l j 0)
@@ -44,7 +44,7 @@ palette-stays l k v n =
       get_or-set_other l k (PALETTE + (3 * e + 2)) v 0 (n (3 * e + 2) (omega arith)),
     ))
 
--- ---- a single byte: MSR, PALMASK, the indexes, the palette's index, position and held bytes, the flags, and each latch
+-- ---- a single byte: MSR, PALMASK, the indexes, the palette's index, position and held bytes, and the flags
 
 -- what is kept, and the chip, with that byte replaced
 abbrev singly : Kept → ℕ → ℕ → Kept
@@ -54,12 +54,6 @@ singly f k v = record {
   palmask = cond (eqb PALMASK k) v f.palmask;
   picture = cond (eqb FLAGS k) (eqb (v / 4 % 2) 1) f.picture;
   palette = f.palette;
-  latches = record {
-    plane0 = cond (eqb LATCHES k) v f.latches.plane0;
-    plane1 = cond (eqb (LATCHES + 1) k) v f.latches.plane1;
-    plane2 = cond (eqb (LATCHES + 2) k) v f.latches.plane2;
-    plane3 = cond (eqb (LATCHES + 3) k) v f.latches.plane3;
-  };
   indexes = record {
     cr = cond (eqb CR_INDEX k) v f.indexes.cr;
     sr = cond (eqb SR_INDEX k) v f.indexes.sr;
@@ -94,12 +88,6 @@ single c k v =
       palmask = cond (eqb PALMASK k) v c.palmask;
       picture = cond (eqb FLAGS k) (eqb (v / 4 % 2) 1) c.picture;
       palette = c.palette;
-      latches = record {
-        plane0 = cond (eqb LATCHES k) v c.latches.plane0;
-        plane1 = cond (eqb (LATCHES + 1) k) v c.latches.plane1;
-        plane2 = cond (eqb (LATCHES + 2) k) v c.latches.plane2;
-        plane3 = cond (eqb (LATCHES + 3) k) v c.latches.plane3;
-      };
     })
     (record {
       cr = cond (eqb CR_INDEX k) v c.indexes.cr;
@@ -135,12 +123,6 @@ laid-single l k v n h =
       palmask = after l k v PALMASK w t;
       picture = flag (λ x. eqb (x / 4 % 2) 1) t;
       palette = palette-stays l k v (λ j x e. omega arith) t;
-      latches = record {
-        plane0 = after l k v LATCHES w t;
-        plane1 = after l k v (LATCHES + 1) w t;
-        plane2 = after l k v (LATCHES + 2) w t;
-        plane3 = after l k v (LATCHES + 3) w t;
-      };
       indexes = record {
         cr = after l k v CR_INDEX w t;
         sr = after l k v SR_INDEX w t;
@@ -181,12 +163,6 @@ set-row l k v n h =
       palmask = other PALMASK (omega arith) t;
       picture = eqb (other FLAGS (omega arith) t / 4 % 2) 1;
       palette = palette-stays l (ROW + k) v (λ j x e. omega arith) t;
-      latches = record {
-        plane0 = other LATCHES (omega arith) t;
-        plane1 = other (LATCHES + 1) (omega arith) t;
-        plane2 = other (LATCHES + 2) (omega arith) t;
-        plane3 = other (LATCHES + 3) (omega arith) t;
-      };
       indexes = record {
         cr = other CR_INDEX (omega arith) t;
         sr = other SR_INDEX (omega arith) t;
@@ -269,12 +245,6 @@ module _ (l : List ℕ) (e r g b : ℕ) (n : length l ≡ whole) (h : e < 256) w
         palmask = early PALMASK (omega arith) t;
         picture = eqb (early FLAGS (omega arith) t / 4 % 2) 1;
         palette = entries t;
-        latches = record {
-          plane0 = early LATCHES (omega arith) t;
-          plane1 = early (LATCHES + 1) (omega arith) t;
-          plane2 = early (LATCHES + 2) (omega arith) t;
-          plane3 = early (LATCHES + 3) (omega arith) t;
-        };
         indexes = record {
           cr = early CR_INDEX (omega arith) t;
           sr = early SR_INDEX (omega arith) t;

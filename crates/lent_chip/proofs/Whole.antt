@@ -9,16 +9,13 @@ use Rattle.chip.specs.declared.Chip.{Chip as Kept}
 use Rattle.chip.specs.State.{Chip}
 use Rattle.chip.specs.declared.Rgb.{Rgb}
 use Rattle.chip.proofs.ViewLaws.{view_decides}
-use Rattle.lent_chip.specs.Layout.{FLAGS, LATCHES, PALETTE, ROW, whole, colour_in, laid, view, spare, Holds}
+use Rattle.lent_chip.specs.Layout.{FLAGS, PALETTE, ROW, whole, colour_in, laid, view, spare, Holds}
 use Rattle.lent_chip.specs.Accesses.{Left}
 use Rattle.lent_chip.proofs.Flags.{same_bit, same_flags}
 use Rattle.lent_chip.proofs.Stores.{row-length, row_at}
 
 not_thirteen : (q : ℕ) → (suc (suc (suc (suc (suc (suc (suc (suc (suc (suc (suc (suc (suc q))))))))))))) < 13 → ⊥
 not_thirteen q h = omega arith
-
-not_four : (d : ℕ) → suc (suc (suc (suc d))) < 4 → ⊥
-not_four d h = omega arith
 
 not_three : (d : ℕ) → suc (suc (suc d)) < 3 → ⊥
 not_three d h = omega arith
@@ -57,14 +54,6 @@ module _ (a b : List ℕ) (e : laid a ≡ laid b) where
   single (suc (suc (suc (suc (suc (suc (suc (suc (suc (suc (suc (suc zero)))))))))))) h = ap (λ (f : Kept). f.loading.green) e
   single (suc (suc (suc (suc (suc (suc (suc (suc (suc (suc (suc (suc (suc q))))))))))))) h = absurd (not_thirteen q h)
 
-  latched : (p : ℕ) → p < 4 → get_or a (LATCHES + p) 0 ≡ get_or b (LATCHES + p) 0
-  unfolding laid
-  latched zero h = ap (λ (f : Kept). f.latches.plane0) e
-  latched (suc zero) h = ap (λ (f : Kept). f.latches.plane1) e
-  latched (suc (suc zero)) h = ap (λ (f : Kept). f.latches.plane2) e
-  latched (suc (suc (suc zero))) h = ap (λ (f : Kept). f.latches.plane3) e
-  latched (suc (suc (suc (suc q)))) h = absurd (not_four q h)
-
   -- three bits of the flags are the chip's, the others are spare
   flags : spare a ≡ spare b → get_or a FLAGS 0 ≡ get_or b FLAGS 0
   unfolding laid spare
@@ -75,27 +64,20 @@ module _ (a b : List ℕ) (e : laid a ≡ laid b) where
       (same_bit (get_or a FLAGS 0 / 4) (get_or b FLAGS 0 / 4) (ap (λ (f : Kept). f.picture) e))
       s
 
-  -- a single byte, the flags, a latch, a byte of the palette, or one of the row
+  -- a byte below the palette, in it, or in the row
   at : spare a ≡ spare b → (k : ℕ) → k < whole → get_or a k 0 ≡ get_or b k 0
-  at s k h = go (ltb k FLAGS) (eqb k FLAGS) (ltb k PALETTE) (ltb k ROW) refl refl refl refl where
-    go : (x u y z : Bool) → ltb k FLAGS ≡ x → eqb k FLAGS ≡ u → ltb k PALETTE ≡ y → ltb k ROW ≡ z → get_or a k 0 ≡ get_or b k 0
-    go true u y z o f p q = single k (ltb-true k FLAGS o)
-    go false true y z o f p q = rw (eqb-true k FLAGS f) (flags s)
-    go false false true z o f p q =
-        let d : k ≡ FLAGS → ⊥ = eqb-false k FLAGS f in
-        let v : FLAGS ≤ k = ltb-false k FLAGS o in
-        let w : k < PALETTE = ltb-true k PALETTE p in
-        let i : LATCHES + (k - LATCHES) ≡ k = omega arith in
-        let t : get_or a (LATCHES + (k - LATCHES)) 0 ≡ get_or b (LATCHES + (k - LATCHES)) 0 = latched (k - LATCHES) (omega arith) in
-        rw i at t
-    go false false false true o f p q =
+  at s k h = go (eqb k FLAGS) (ltb k PALETTE) (ltb k ROW) refl refl refl where
+    go : (x y z : Bool) → eqb k FLAGS ≡ x → ltb k PALETTE ≡ y → ltb k ROW ≡ z → get_or a k 0 ≡ get_or b k 0
+    go true y z o p q = rw (eqb-true k FLAGS o) (flags s)
+    go false true z o p q = let d : k ≡ FLAGS → ⊥ = eqb-false k FLAGS o in single k (omega (arith, ltb-true k PALETTE p))
+    go false false true o p q =
         let w : k < ROW = ltb-true k ROW q in
         let v : PALETTE ≤ k = ltb-false k PALETTE p in
         let d : PALETTE + (3 * ((k - PALETTE) / 3) + (k - PALETTE) % 3) ≡ k = omega arith in
         let t : get_or a (PALETTE + (3 * ((k - PALETTE) / 3) + (k - PALETTE) % 3)) 0 ≡ get_or b (PALETTE + (3 * ((k - PALETTE) / 3) + (k - PALETTE) % 3)) 0 =
         colour ((k - PALETTE) / 3) ((k - PALETTE) % 3) (omega arith) (omega arith) in
         rw d at t
-    go false false false false o f p q =
+    go false false false o p q =
         let v : ROW ≤ k = ltb-false k ROW q in
         let d : ROW + (k - ROW) ≡ k = omega arith in
         let t : get_or a (ROW + (k - ROW)) 0 ≡ get_or b (ROW + (k - ROW)) 0 = row (k - ROW) (omega arith) in

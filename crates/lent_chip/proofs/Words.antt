@@ -1,23 +1,22 @@
 -- What a write answers, as one number: the number decides what is told and is decided by it; the words of writes that tell of no
 -- register; and the word of a register's byte before and after.
-use Rattle.std.proofs.Common.{◌≡◌, ℕ, ◌+◌, ◌*◌, ◌/◌, ◌%◌, ◌<◌, ◌≤◌, Bool, true, false, cond, not, ◌&&◌, ◌||◌, eqb, leb, List, get_or, sym, refl, ap, ◌∙◌, ap₂, arith, eq-eqb, eqb-true, leb-false, leb-true}
+use Rattle.std.proofs.Common.{◌≡◌, ℕ, ◌+◌, ◌*◌, ◌/◌, ◌%◌, ◌<◌, ◌≤◌, Bool, true, false, cond, not, ◌&&◌, ◌||◌, eqb, leb, List, get_or, sym, refl, ap, ◌∙◌, arith, eq-eqb, eqb-true, leb-false, leb-true}
 use borrow.Author.Tests.{eqb-false}
 use Rattle.chip_registers.specs.declared.Group.{Group}
-use Rattle.chip_registers.specs.declared.Group.TheVariants.{Cr, Ar}
+use Rattle.chip_registers.specs.declared.Group.TheVariants.{Ar}
 use Rattle.chip_ports.specs.declared.Target.TheVariants.{Paldata}
 use Rattle.chip.specs.State.{Chip, named, join, with_named, with_indexes, with_loading, with_turn, index_of}
-use Rattle.chip.specs.Names.{register, reads_latch, latch_read, read_byte, received, eight_bit}
+use Rattle.chip.specs.Names.{register, received, eight_bit}
 use Rattle.chip.specs.Palette.{by_mode, coloured, held, moved, loaded}
 use Rattle.chip.specs.Attribute.{attribute_set}
-use Rattle.chip.specs.Access.{Wrote, wrote, untold, told, write_to}
+use Rattle.chip.specs.Access.{Wrote, untold, told, write_to}
 use Rattle.chip.specs.Differ.{same_colour, same_stored, differ, changes}
 use Rattle.chip.specs.declared.access.Answer.{Answer}
 use Rattle.chip.specs.declared.access.Answer.TheVariants.{Done, Unlisted, Closed}
-use Rattle.chip.proofs.ReadLaws.{cr22_reads_latch, read-stored, latch-stays, latch_stores_nothing}
-use Rattle.chip.proofs.DifferLaws.{unmoved, received-differs, differ-named, coloured_same-stored}
+use Rattle.chip.proofs.DifferLaws.{received_differs, differ-named, coloured_same-stored}
 use Rattle.chip.proofs.PaletteLaws.{coloured-same}
 use Rattle.lent_chip.specs.Layout.{PALETTE, view, spare, Holds}
-use Rattle.lent_chip.specs.Accesses.{Told, told_stored, told_of, Packed, WroteIn}
+use Rattle.lent_chip.specs.Accesses.{Told, told_of, Packed, WroteIn}
 use Rattle.lent_chip.proofs.Stores.{get_colour, palette-length}
 use Rattle.lent_chip.proofs.Holding.{turned}
 
@@ -87,35 +86,14 @@ shown_below false x h = omega arith
 pub then_told : {l m : List ℕ} {r : ℕ} (g : Group) (i v : ℕ) (z : Bool) (before after : ℕ) → i < 256
     → Holds m (with_named (view l) (received g (named (view l)) i v)) (spare l) → r ≡ 256 * cond z before 0 + cond z after 0
     → before < 256 → after < 256 → cond z before 0 ≡ register g (named (view l)) i → cond z after 0 ≡ register g (named (view m)) i
-    → WroteIn l (told_stored g i (view l) (with_named (view l) (received g (named (view l)) i v))) m r
+    → WroteIn l (told g i (view l) (with_named (view l) (received g (named (view l)) i v))) m r
 then_told {l} g i v z before after h k is hb ha b a =
     let now = a ∙ ap (λ (d : Chip). register g (named d) i) k.chip in
     let old : ℕ = register g (named (view l)) i in
     let new : ℕ = register g (received g (named (view l)) i v) i in
     let same : old ≡ new → changes (view l) (with_named (view l) (received g (named (view l)) i v)) ≡ 0 =
-    λ e. rw (received-differs g (view l) i v h, eq-eqb old new e) refl in
+    λ e. rw (received_differs g (view l) i v h, eq-eqb old new e) refl in
     record { holds = k; answer = rw (is, b, now) (word old new _ (rw b at (shown_below z before hb)) (rw now at (shown_below z after ha)) same) }
-
--- what is stored of a register is what it reads as, but for CR22
-pub told-stored : (g : Group) (i : ℕ) (c d : Chip) → reads_latch g i ≡ false → told_stored g i c d ≡ told g i c d
-told-stored g i c d e =
-    ap₂ (λ (b a : ℕ). wrote Done b a d) (sym (read-stored g (named c) i e)) (sym (read-stored g (named d) i e))
-
--- CR22, whose latch is told twice
-pub latch-told : {l m : List ℕ} {r b : ℕ} (v : ℕ) → WroteIn l (told_stored Cr 0x22 (view l) (with_named (view l) (received Cr (named (view l)) 0x22 v))) m r
-    → b ≡ latch_read (named (view m)) → b < 256
-    → WroteIn l (told Cr 0x22 (view l) (with_named (view l) (received Cr (named (view l)) 0x22 v))) m (257 * b)
-latch-told {l} {m} {r} {b} v w is hb =
-    let n = named (view l) in
-    let byte : register Cr n 0x22 < 0x100 = omega (arith, w.answer.before) in
-    let after : read_byte Cr (received Cr n 0x22 v) 0x22 ≡ b =
-    cr22_reads_latch (received Cr n 0x22 v) ∙ sym (is ∙ ap (λ (d : Chip). latch_read (named d)) w.holds.chip) in
-    let before : read_byte Cr n 0x22 ≡ b = sym (latch-stays Cr n 0x22 v refl) ∙ after in
-    let twice : 257 * b ≡ 256 * b + b = omega arith in
-    record {
-      holds = w.holds;
-      answer = rw (twice, before, after, unmoved (view l) (with_named (view l) (received Cr n 0x22 v)) (latch_stores_nothing Cr n 0x22 v refl byte)) (word b b 0 hb hb (λ _. refl));
-    }
 
 -- what an access leaves and tells, from an access of which it is the same
 pub now_wrote : {l m : List ℕ} {w x : Wrote} {r : ℕ} → WroteIn l w m r → w ≡ x → WroteIn l x m r

@@ -1,12 +1,9 @@
 -- What a call on lent bytes leaves. Bytes of another length than a state's are refused, and none of them changes; bytes of the
 -- right length hold afterwards the chip that crate `chip`'s definition gives from the chip that they held.
 use Rattle.std.specs.Prelude.{◌≡◌, ℕ, ◌/◌, ◌%◌, Bool, cond, List, length, ◌==◌, ◌≢◌}
-use Rattle.chip_registers.specs.declared.Group.{Group}
-use Rattle.chip.specs.Names.{register}
-use Rattle.chip.specs.Access.{Seen, Wrote, wrote, answer_number}
+use Rattle.chip.specs.Access.{Seen, Wrote, answer_number}
 use Rattle.chip.specs.Differ.{changes}
-use Rattle.chip.specs.State.{Chip, named}
-use Rattle.chip.specs.declared.access.Answer.TheVariants.{Done}
+use Rattle.chip.specs.State.{Chip}
 use Rattle.lent_chip.specs.Layout.{whole, view, spare, Holds}
 
 -- whether bytes are a state
@@ -25,10 +22,6 @@ pub record Told : Type 0 where
   pub changed : ℕ
   pub before : ℕ
   pub after : ℕ
-
--- what is told of a register, by what is stored in it: CR22 alone reads as something else
-abbrev pub told_stored : Group → ℕ → Chip → Chip → Wrote
-told_stored g i c d = wrote Done (register g (named c) i) (register g (named d) i) d
 
 abbrev pub told_of : Chip → Wrote → Told
 told_of c w = record { number = answer_number w.answer; changed = changes c w.chip; before = w.before; after = w.after }

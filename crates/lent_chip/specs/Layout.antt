@@ -1,6 +1,6 @@
 -- The chip on lent bytes: which byte of a list is which part of the state. Document 01, "Ports" (the chip state); document 02,
--- P1, for the attribute registers, P7: only listed registers are kept, and P9: the latches. First come the single bytes, then the
--- four latches, the palette with three bytes an entry, and last, since it is what grows, the row of the listed registers (`slot_of` of crate `chip_registers`
+-- P1, for the attribute registers, and P7: only listed registers are kept. First come the single bytes, then the palette with
+-- three bytes an entry, and last, since it is what grows, the row of the listed registers (`slot_of` of crate `chip_registers`
 -- says where each stands). Every place has a name below. An unlisted index has no byte, and reads 00h. Any list of `whole` bytes
 -- is a state. The upper five bits of the flags are no part of the chip: they are spare, and stay.
 use Rattle.std.specs.Prelude.{◌≡◌, ℕ, ◌+◌, ◌*◌, ◌/◌, ◌%◌, cond, List, length, ◌==◌, slice_index}
@@ -60,20 +60,16 @@ GREEN = 12
 abbrev pub FLAGS : ℕ
 FLAGS = 13
 
--- where the latches of planes 0 to 3 start, where the palette does, and where the row does; that they follow one another and fill
--- a state is the law `regions_fill`
-abbrev pub LATCHES : ℕ
-LATCHES = 14
-
+-- where the palette starts, and where the row does; that they follow one another and fill a state is the law `regions_fill`
 abbrev pub PALETTE : ℕ
-PALETTE = 18
+PALETTE = 14
 
 abbrev pub ROW : ℕ
-ROW = 786
+ROW = 782
 
 -- the bytes of a state
 abbrev pub whole : ℕ
-whole = 1061
+whole = 1057
 
 -- entry e of the palette
 abbrev pub colour_in : List ℕ → ℕ → Rgb
@@ -87,12 +83,6 @@ laid l = record {
   palmask = slice_index l PALMASK;
   picture = (slice_index l FLAGS / 4 % 2 == 1);
   palette = tab (colour_in l) 256;
-  latches = record {
-    plane0 = slice_index l LATCHES;
-    plane1 = slice_index l (LATCHES + 1);
-    plane2 = slice_index l (LATCHES + 2);
-    plane3 = slice_index l (LATCHES + 3);
-  };
   indexes = record {
     cr = slice_index l CR_INDEX;
     sr = slice_index l SR_INDEX;

@@ -17,7 +17,7 @@ use chip_ports::{Target, leads_to};
 use chip_registers::{Group, index_kept};
 
 // How many bytes a state has.
-pub const STATE: usize = 1061;
+pub const STATE: usize = 1057;
 
 // Document 01's numbers of an access. An access answers by one word: of a read 256 times the number plus the byte, of a
 // write as specs/Accesses packs it. One number stays in a register, where an enum or a struct would go through memory.

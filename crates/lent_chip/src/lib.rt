@@ -1,4 +1,4 @@
-// The chip on bytes that a caller lends: any 1,061 bytes are a state (specs/Layout says which byte is what), and every
+// The chip on bytes that a caller lends: any 1,057 bytes are a state (specs/Layout says which byte is what), and every
 // access works on them in place. Document 01, "Ports" (the state) and "Registers" and "Palette"; document 02, P1, for
 // the attribute registers, P6: what a write did to the register, and P7: the listed registers stand in one row, and an
 // unlisted index has no byte. Here are the registers by name, then the palette, then port 3C0h. The other indexes and
@@ -8,7 +8,7 @@ ghost use Rattle.std.specs.Prelude.{◌≡◌, ◌+◌, ◌*◌, ◌/◌, ◌%�
 ghost use Rattle.chip_registers.specs.Groups.{group_at};
 ghost use Rattle.chip_registers.specs.WriteRule.{under_lock};
 ghost use Rattle.chip.specs.State.{named, join, with_named, with_indexes, with_loading, with_turn, index_of};
-ghost use Rattle.chip.specs.Names.{register, latch_read, read_byte, locked as lockedOf, received, ports_open, picks3_dx, eight_bit};
+ghost use Rattle.chip.specs.Names.{register, locked as lockedOf, received, ports_open, picks3_dx, eight_bit};
 ghost use Rattle.chip.specs.Palette.{by_mode, coloured, aimed, held, moved, loaded, palstate as palstateOf, paldata as paldataOf};
 ghost use Rattle.chip.specs.Attribute.{attribute_index, attribute_aimed, attribute_set};
 ghost use Rattle.chip.specs.Access.{told as told_by, attribute_wrote, write_to};
@@ -16,7 +16,7 @@ ghost use Rattle.chip.specs.Differ.{same_stored};
 ghost use Rattle.chip_ports.specs.declared.Target.TheVariants.{Paldata};
 ghost use Rattle.chip_masks.specs.Table.{standing_of};
 ghost use Rattle.lent_chip.specs.Layout.{whole, PALETTE, view, spare, base_of, place_of, third_of, Holds};
-ghost use Rattle.lent_chip.specs.Accesses.{told_stored, WroteIn};
+ghost use Rattle.lent_chip.specs.Accesses.{WroteIn};
 
 use chip_masks::entry_at;
 use chip_registers::{Group, index_kept, locked_by, under_lock, write};
@@ -53,12 +53,10 @@ const GREEN: usize = 12;
 
 const FLAGS: usize = 13;
 
-// Where the latches of planes 0 to 3 start, where the palette does, three bytes an entry, and where the row does.
-pub const LATCHES: usize = 14;
+// Where the palette starts, three bytes an entry, and where the row does.
+pub const PALETTE: usize = 14;
 
-pub const PALETTE: usize = 18;
-
-const ROW: usize = 786;
+const ROW: usize = 782;
 
 // A write that is done and tells of no register: FFh twice; and the same where a colour differs after it (specs/Accesses
 // says what each bit is).
@@ -138,33 +136,13 @@ fn get_at(state: &[u8], n: u8, i: u8) -> u8
     shown_by(e.standing, state[at])
 }
 
-// The latch of the plane that GR04 picks.
-fn latch_read(state: &[u8]) -> u8
-    requires { length state.now ≡ whole }
-    ensures { result ≡ latch_read (named (view state.now)) }
-{
-    let at = LATCHES + (get_at(state, GR_GROUP, 0x04) % 4) as usize;
-    state[at]
-}
-
-// What a register of CR reads as: CR22 is a latch.
-fn get_cr(state: &[u8], i: u8) -> u8
-    requires { length state.now ≡ whole }
-    ensures { result ≡ read_byte Group.Cr (named (view state.now)) i }
-{
-    if i == 0x22 {
-        return latch_read(state);
-    }
-    get_at(state, CR_GROUP, i)
-}
-
-// What a register reads as, by name. Each group's number is written out, for the compiler.
+// The byte of a register, by name. Each group's number is written out, for the compiler.
 fn get(state: &[u8], g: Group, i: u8) -> u8
     requires { length state.now ≡ whole }
-    ensures { result ≡ read_byte g (named (view state.now)) i }
+    ensures { result ≡ register g (named (view state.now)) i }
 {
     match g {
-        Group::Cr => get_cr(state, i),
+        Group::Cr => get_at(state, CR_GROUP, i),
         Group::Sr => get_at(state, SR_GROUP, i),
         Group::Gr => get_at(state, GR_GROUP, i),
         Group::Xr => get_at(state, XR_GROUP, i),
@@ -193,12 +171,11 @@ fn told(standing: u8, old: u8, new: u8) -> u64
     if standing / 128 % 2 == 1 { w } else { 0 }
 }
 
-// A register receives a byte, by the number of its group and its index; `left` is what its lock leaves open. The word is
-// of what is stored.
+// A register receives a byte, by the number of its group and its index; `left` is what its lock leaves open.
 fn put_at(state: &mut [u8], n: u8, i: u8, v: u8, left: u8) -> u64
     requires state_len { length state.old ≡ whole }
     requires left_value { left ≡ under_lock (group_at n) (lockedOf (group_at n) (named (view state.old))) i 0xFF }
-    ensures { WroteIn state.old (told_stored (group_at n) i (view state.old) (with_named (view state.old) (received (group_at n) (named (view state.old)) i v))) state.new result }
+    ensures { WroteIn state.old (told_by (group_at n) i (view state.old) (with_named (view state.old) (received (group_at n) (named (view state.old)) i v))) state.new result }
 {
     let e = entry_at(n, i);
     let at = place_from(n, i, e.standing);
@@ -209,19 +186,6 @@ fn put_at(state: &mut [u8], n: u8, i: u8, v: u8, left: u8) -> u64
     told(e.standing, old, new)
 }
 
-// A register of CR receives a byte. CR22 stores nothing, and tells of the latch that it reads, twice.
-fn put_cr(state: &mut [u8], i: u8, v: u8, left: u8) -> u64
-    requires state_len { length state.old ≡ whole }
-    requires left_value { left ≡ under_lock Group.Cr (lockedOf Group.Cr (named (view state.old))) i 0xFF }
-    ensures { WroteIn state.old (told_by Group.Cr i (view state.old) (with_named (view state.old) (received Group.Cr (named (view state.old)) i v))) state.new result }
-{
-    let word = put_at(state, CR_GROUP, i, v, left);
-    if i == 0x22 {
-        return 257 * (latch_read(state) as u64);
-    }
-    word
-}
-
 // A register receives a byte, by name. Each group's number is written out, for the compiler.
 fn put(state: &mut [u8], g: Group, i: u8, v: u8) -> u64
     requires { length state.old ≡ whole }
@@ -229,7 +193,7 @@ fn put(state: &mut [u8], g: Group, i: u8, v: u8) -> u64
 {
     let left = under_lock(g, locked(state, g), i, 0xFF);
     match g {
-        Group::Cr => put_cr(state, i, v, left),
+        Group::Cr => put_at(state, CR_GROUP, i, v, left),
         Group::Sr => put_at(state, SR_GROUP, i, v, left),
         Group::Gr => put_at(state, GR_GROUP, i, v, left),
         Group::Xr => put_at(state, XR_GROUP, i, v, left),

@@ -12,7 +12,7 @@ use Rattle.chip.specs.Access.{Wrote, port_written, port_read}
 use Rattle.chip.specs.State.{Chip}
 use Rattle.chip.specs.Differ.{differ, changes}
 use Rattle.chip.proofs.NumberLaws.{write_refused, read-refused}
-use Rattle.chip.proofs.DifferLaws.{unmoved, read_differs_not, told-differs}
+use Rattle.chip.proofs.DifferLaws.{unmoved, read_differs_not, told_differs}
 use Rattle.script_commands.specs.declared.Command.TheVariants.{Out, In, Merge, OutAcc}
 use Rattle.script_commands.specs.declared.CommandRead.{CommandRead}
 use Rattle.script_commands.specs.declared.CommandRead.TheVariants.{Known, Unknown}
@@ -53,7 +53,7 @@ module _ {l m : List ℕ} {t : Turn} (p : ℕ) (size : length l ≡ whole) where
         acc = a;
         changed =
             c ∙ sym (packed-changed w (told_of (view l) x) told (changes_most (view l) x.chip)
-            (λ other. ap (λ (z : Bool). cond z 1 0) (told-differs (view l) p v other)));
+            (λ other. ap (λ (z : Bool). cond z 1 0) (told_differs (view l) p v other)));
       }
 
   pub fetched : t.number ≡ (read_table l p).number → t.acc ≡ (read_table l p).value → t.changed ≡ 0 → Left l (port_read (view l) p).chip (spare l) m

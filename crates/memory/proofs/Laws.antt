@@ -28,34 +28,30 @@ allowed_exactly n = (
 
 -- ---- the numbers of a read and a write
 
--- a test of the length goes before one of the place; the planar window (crate planes) has its numbers so too
-abbrev pub numbered : Bool → Bool → ℕ
-numbered l i = cond l (cond i 0 4) 3
+number : Bool → Bool → ℕ
+number l i = cond l (cond i 0 4) 3
 
-pub three_exactly : (l i : Bool) → (numbered l i ≡ 3) ↔ (l ≡ false)
+three_exactly : (l i : Bool) → (number l i ≡ 3) ↔ (l ≡ false)
+unfolding number
 three_exactly false i = (λ e. refl, λ e. refl)
 three_exactly true true = (λ e. absurd (eqb-false 0 3 refl e), λ e. absurd (true≢false e))
 three_exactly true false = (λ e. absurd (eqb-false 4 3 refl e), λ e. absurd (true≢false e))
 
-pub four_exactly : (l i : Bool) → (numbered l i ≡ 4) ↔ ((l ≡ true) × (i ≡ false))
+four_exactly : (l i : Bool) → (number l i ≡ 4) ↔ ((l ≡ true) × (i ≡ false))
+unfolding number
 four_exactly false i = (λ e. absurd (eqb-false 3 4 refl e), λ e. absurd (false≢true e.0))
 four_exactly true true = (λ e. absurd (eqb-false 0 4 refl e), λ e. absurd (true≢false e.1))
 four_exactly true false = (λ e. (refl, refl), λ e. refl)
 
-pub zero_exactly : (l i : Bool) → (numbered l i ≡ 0) ↔ (l && i ≡ true)
-zero_exactly false i = (λ e. absurd (eqb-false 3 0 refl e), λ e. absurd (false≢true e))
-zero_exactly true true = (λ e. refl, λ e. refl)
-zero_exactly true false = (λ e. absurd (eqb-false 4 0 refl e), λ e. absurd (false≢true e))
-
 module _ (n at : ℕ) where
   -- 3 is given exactly when the memory length is not allowed
   pub byte_3_exactly : (byte_number n at ≡ 3) ↔ (length_allowed n ≡ false)
-  unfolding byte_number
+  unfolding byte_number number
   byte_3_exactly = three_exactly (length_allowed n) (ltb at n)
 
   -- 4 exactly when it is, and the byte lies outside memory
   pub byte_4_exactly : (byte_number n at ≡ 4) ↔ ((length_allowed n ≡ true) × (n ≤ at))
-  unfolding byte_number
+  unfolding byte_number number
   byte_4_exactly =
       let e = four_exactly (length_allowed n) (ltb at n) in
       (λ h. ((e.0 h).0, ltb-false _ _ (e.0 h).1), λ h. e.1 (h.0, le-ltb _ _ h.1))

@@ -59,9 +59,9 @@ colour_silent e old new w = go (same_colour old new) refl w
 
 module _ (before after : Named) (silent : changed before after ≡ []) where
   -- every register; MSR and PALMASK have the index 0
-  pub registers-same : (g i : ℕ) → g < 9 → i < indexes g → register (group_at g) before i ≡ register (group_at g) after i
+  pub registers_same : (g i : ℕ) → g < 9 → i < indexes g → register (group_at g) before i ≡ register (group_at g) after i
   unfolding changed
-  registers-same g i hg hi =
+  registers_same g i hg hi =
       let e = empty_left (groups_to before after 9) (colours_to before after 256) silent in
       let f = joined_empty (λ (k : ℕ). registers_to before after k (indexes k)) 9 g hg e in
       register_silent g i _ _ (joined_empty (λ (k : ℕ). register_at before after g k) (indexes g) i hi f)

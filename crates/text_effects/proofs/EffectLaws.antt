@@ -25,7 +25,7 @@ use Rattle.chip.specs.Access.{Wrote, untold, told as handed, write_to, port_writ
 use Rattle.chip.specs.Differ.{same_colour, differ}
 use Rattle.chip.specs.declared.access.Answer.TheVariants.{Done}
 use Rattle.chip.proofs.AccessLaws.{write_open}
-use Rattle.chip.proofs.DifferLaws.{colour_self, colour_same, unmoved, reached-differs, paldata-differs, aimed_differs_not, read_differs_not}
+use Rattle.chip.proofs.DifferLaws.{colour_self, colour_same, unmoved, reached_differs, paldata_differs, aimed_differs_not, read_differs_not}
 use Rattle.script.specs.File.{step_count}
 use Rattle.script.specs.declared.Refusal.TheVariants.{Room}
 use Rattle.script_commands.specs.Command.{bytes_of_all}
@@ -63,13 +63,13 @@ module _ (g : Group) (c d : Chip) (v : ℕ) (is : named d ≡ received g (named 
       → behind c w.chip ≡ ascii "   " ++ register_line (number_of g) (index_of g c.indexes) w.before w.after
   unfolding register_change
   told_other e = rw e (λ other.
-      behind_other c d (reached-differs g c d v is ∙ ap not (ne_eqb _ _ other))
+      behind_other c d (reached_differs g c d v is ∙ ap not (ne_eqb _ _ other))
       ∙ ap (◌++◌ (ascii "   "))
       (ap (changed (named c)) is ∙ changed-received g (named c) (index_of g c.indexes) v (kept-index g (index_byte g c.indexes))
       ∙ rw (← is, ne_eqb _ _ other)))
 
   told_same : {w : Wrote} → w ≡ handed g (index_of g c.indexes) c d → w.before ≡ w.after → behind c w.chip ≡ ascii "\n"
-  told_same e = rw e (λ same. behind-same c d (reached-differs g c d v is ∙ ap not (eq-eqb _ _ same)))
+  told_same e = rw e (λ same. behind-same c d (reached_differs g c d v is ∙ ap not (eq-eqb _ _ same)))
 
 -- ---- a colour that a write reached
 other_colour : (x y : Rgb) → (x ≡ y → ⊥) → same_colour x y ≡ false
@@ -102,13 +102,13 @@ module _ (c : Chip) (v e : ℕ) (at : c.loading.index ≡ e) (few : e < 256) whe
   loaded_other : (entry (named c) e ≡ entry (named (write_to Paldata c v).chip) e → ⊥)
       → behind c (write_to Paldata c v).chip ≡ ascii "   " ++ colour_line e (entry (named c) e) (entry (named (write_to Paldata c v).chip) e)
   loaded_other other =
-      behind_other c (write_to Paldata c v).chip (paldata-differs c v e at few ∙ ap not (other_colour _ _ other))
+      behind_other c (write_to Paldata c v).chip (paldata_differs c v e at few ∙ ap not (other_colour _ _ other))
       ∙ ap (◌++◌ (ascii "   ")) (loaded-told (named c) c.loading v e at few other)
 
   loaded-same : entry (named c) e ≡ entry (named (write_to Paldata c v).chip) e → behind c (write_to Paldata c v).chip ≡ ascii "\n"
   loaded-same same =
       behind-same c (write_to Paldata c v).chip
-      (paldata-differs c v e at few ∙ ap (λ (x : Rgb). not (same_colour (entry (named c) e) x)) (sym same) ∙ ap not (colour_self (entry (named c) e)))
+      (paldata_differs c v e at few ∙ ap (λ (x : Rgb). not (same_colour (entry (named c) e) x)) (sym same) ∙ ap not (colour_self (entry (named c) e)))
 
 -- ---- what stands behind the writes
 module _ (c : Chip) (p v : ℕ) (free : ports_open (named c) ≡ true) where

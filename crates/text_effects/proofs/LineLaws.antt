@@ -26,7 +26,7 @@ use Rattle.text.specs.Ascii.{ascii}
 use Rattle.text_steps.specs.Written.{name_text, byte_text}
 use Rattle.text_changes.specs.Changes.{register_line, register_change, indexes, colour_digits, colour_line, colour_change, changed}
 use Rattle.text_changes.proofs.One.{kept-index, changed-received, changed-coloured, changed_outside, changed_picture, read-line}
-use Rattle.text_changes.proofs.Telling.{registers-same, colours_same, changed-none}
+use Rattle.text_changes.proofs.Telling.{registers_same, colours_same, changed-none}
 use Rattle.text_effects.specs.Effects.{words_read, behind}
 
 -- bytes that end with a line feed
@@ -40,15 +40,15 @@ line-behind x e = record { front = x ++ e.front; ends = ap (◌++◌ x) e.ends �
 module _ (a b : Named) (silent : changed a b ≡ []) where
   registers_all : (g : Group) (i : ℕ) → i < 256 → register g a i ≡ register g b i
   unfolding group_at indexes
-  registers_all Cr i h = registers-same a b silent 0 i (omega arith) h
-  registers_all Sr i h = registers-same a b silent 1 i (omega arith) h
-  registers_all Gr i h = registers-same a b silent 2 i (omega arith) h
-  registers_all Xr i h = registers-same a b silent 3 i (omega arith) h
-  registers_all Fr i h = registers-same a b silent 4 i (omega arith) h
-  registers_all Mr i h = registers-same a b silent 5 i (omega arith) h
-  registers_all Msr i h = registers-same a b silent 6 0 (omega arith) (omega arith)
-  registers_all Palmask i h = registers-same a b silent 7 0 (omega arith) (omega arith)
-  registers_all Ar i h = registers-same a b silent 8 i (omega arith) h
+  registers_all Cr i h = registers_same a b silent 0 i (omega arith) h
+  registers_all Sr i h = registers_same a b silent 1 i (omega arith) h
+  registers_all Gr i h = registers_same a b silent 2 i (omega arith) h
+  registers_all Xr i h = registers_same a b silent 3 i (omega arith) h
+  registers_all Fr i h = registers_same a b silent 4 i (omega arith) h
+  registers_all Mr i h = registers_same a b silent 5 i (omega arith) h
+  registers_all Msr i h = registers_same a b silent 6 0 (omega arith) (omega arith)
+  registers_all Palmask i h = registers_same a b silent 7 0 (omega arith) (omega arith)
+  registers_all Ar i h = registers_same a b silent 8 i (omega arith) h
 
 pub silent_same : (c d : Chip) → changed (named c) (named d) ≡ [] → differ c d ≡ false
 unfolding differ

@@ -1,6 +1,6 @@
--- `blit_raster::chosen` meets its contract: both bytes are computed. Assumes nothing.
+-- `raster::chosen` meets its contract: both bytes are computed. Assumes nothing.
 use borrow.Author.Rules.{rules}
-use Rattle.lists.specs.Bits.{number}
+use Rattle.blit_raster.specs.Raster.{number}
 use Rattle.blit_raster.proofs.chosen.Statement.{statement}
 use Rattle.blit_raster.proofs.chosen.Tie as tie
 

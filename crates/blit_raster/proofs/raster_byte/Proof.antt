@@ -1,4 +1,4 @@
--- `blit_raster::raster_byte` meets its contract: its text is the eight terms, with the code's bits as bytes. Assumes nothing.
+-- `raster::raster_byte` meets its contract: its text is the eight terms, with the code's bits as bytes. Assumes nothing.
 use borrow.Author.Rules.{rules}
 use Rattle.blit_raster.specs.AppendixE.{value, inputs}
 use Rattle.blit_raster.proofs.Terms.{named-raster}

@@ -1,7 +1,7 @@
--- `blit_raster::spread` meets its contract: the bit is 0 or 1, and both are computed. Assumes nothing.
+-- `raster::spread` meets its contract: the bit is 0 or 1, and both are computed. Assumes nothing.
 use borrow.Author.Rules.{rules}
 use Rattle.lists.specs.Bits.{bit}
-use Rattle.lists.proofs.Bits.{bit_small}
+use Rattle.blit_raster.proofs.Laws.{bit_small}
 use Rattle.blit_raster.proofs.Terms.{copied}
 use Rattle.blit_raster.proofs.spread.Statement.{statement}
 use Rattle.blit_raster.proofs.spread.Tie as tie

@@ -1,4 +1,4 @@
--- `blit_raster::uses_source` meets its contract: the 256 codes are tried. Assumes nothing.
+-- `raster::uses_source` meets its contract: the 256 codes are tried. Assumes nothing.
 use mathlib.Core.Path.{refl}
 use mathlib.Core.Bool.{not, beq}
 use Prim.Native.Nat.{◌/◌, zero-le}

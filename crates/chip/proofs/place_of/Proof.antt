@@ -1,6 +1,6 @@
 -- The byte of the table of places, counted from the group's first.
 use Rattle.std.proofs.Common.{arith, rules}
-use Rattle.chip.proofs.Places.{stands-nowhere, stands-there}
+use Rattle.chip.proofs.Places.{stands_nowhere, stands-there}
 use Rattle.chip.proofs.place_of.Statement.{statement}
 use Rattle.chip.proofs.place_of.Tie as tie
 
@@ -9,7 +9,7 @@ place_of_spec =
     tie.close
     (tie.spec
     (λ c κs. search rules)
-    (λ c. stands-nowhere _ _ (omega arith) (omega arith))
+    (λ c. stands_nowhere _ _ (omega arith) (omega arith))
     (λ c κs. search rules)
     (λ c. search rules)
     (λ c. omega arith)

@@ -1,8 +1,6 @@
--- By the group: CR has a function of its own, and of every other register what is stored is what is told.
-use Rattle.std.proofs.Common.{refl, rules}
+-- By the group.
 use Rattle.chip_registers.specs.Groups.{group_at}
-use Rattle.chip_registers.specs.declared.Group.TheVariants.{Sr, Gr, Xr, Fr, Mr, Msr, Palmask, Ar}
-use Rattle.lent_chip.proofs.Words.{now_wrote, told-stored}
+use Rattle.std.proofs.Common.{rules}
 use Rattle.lent_chip.proofs.put.Statement.{statement}
 use Rattle.lent_chip.proofs.put.Tie as tie
 
@@ -33,20 +31,20 @@ put_spec =
     (λ c. search rules)
     (λ c κs. (c.before.before.before.before.before.before.before.requires, rw (c.before.before.before.under-lock.ensures, c.before.before.before.before.locked.ensures, c.before.enum-told9.given.1)))
     (λ c. search rules)
-    (λ c. rw c.before.before.before.before.enum_told.given.1 c.before.before.put-cr.ensures)
+    (λ c. rw c.before.before.before.before.enum_told.given.1 c.before.before.put-at.ensures)
     (λ c. search rules)
-    (λ c. rw c.before.before.before.before.enum-told2.given.1 (now_wrote c.before.before.put-at.ensures (told-stored Sr _ _ _ refl)))
+    (λ c. rw c.before.before.before.before.enum-told2.given.1 c.before.before.put-at2.ensures)
     (λ c. search rules)
-    (λ c. rw c.before.before.before.before.enum-told3.given.1 (now_wrote c.before.before.put-at2.ensures (told-stored Gr _ _ _ refl)))
+    (λ c. rw c.before.before.before.before.enum-told3.given.1 c.before.before.put-at3.ensures)
     (λ c. search rules)
-    (λ c. rw c.before.before.before.before.enum-told4.given.1 (now_wrote c.before.before.put-at3.ensures (told-stored Xr _ _ _ refl)))
+    (λ c. rw c.before.before.before.before.enum-told4.given.1 c.before.before.put-at4.ensures)
     (λ c. search rules)
-    (λ c. rw c.before.before.before.before.enum-told5.given.1 (now_wrote c.before.before.put-at4.ensures (told-stored Fr _ _ _ refl)))
+    (λ c. rw c.before.before.before.before.enum-told5.given.1 c.before.before.put-at5.ensures)
     (λ c. search rules)
-    (λ c. rw c.before.before.before.before.enum-told6.given.1 (now_wrote c.before.before.put-at5.ensures (told-stored Mr _ _ _ refl)))
+    (λ c. rw c.before.before.before.before.enum-told6.given.1 c.before.before.put-at6.ensures)
     (λ c. search rules)
-    (λ c. rw c.before.before.before.before.enum-told7.given.1 (now_wrote c.before.before.put-at6.ensures (told-stored Msr _ _ _ refl)))
+    (λ c. rw c.before.before.before.before.enum-told7.given.1 c.before.before.put-at7.ensures)
     (λ c. search rules)
-    (λ c. rw c.before.before.before.before.enum-told8.given.1 (now_wrote c.before.before.put-at7.ensures (told-stored Palmask _ _ _ refl)))
+    (λ c. rw c.before.before.before.before.enum-told8.given.1 c.before.before.put-at8.ensures)
     (λ c. search rules)
-    (λ c. rw c.before.before.before.before.enum-told9.given.1 (now_wrote c.before.before.put-at8.ensures (told-stored Ar _ _ _ refl))))
+    (λ c. rw c.before.before.before.before.enum-told9.given.1 c.before.before.put-at9.ensures))

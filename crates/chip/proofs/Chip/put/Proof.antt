@@ -2,7 +2,7 @@
 use Rattle.std.proofs.Common.{◌≡◌, ℕ, length, sym, refl, ◌∙◌, arith, rules}
 use lib.ListN.{length-map}
 use Rattle.chip_registers.specs.Row.{row_size}
-use Rattle.chip.proofs.Places.{put-there, put-nowhere, put-msr, put-palmask}
+use Rattle.chip.proofs.Places.{put-there, put_nowhere, put-msr, put-palmask}
 use Rattle.chip.proofs.Chip.put.Statement.{statement}
 use Rattle.chip.proofs.Chip.put.Tie as tie
 
@@ -30,12 +30,12 @@ put_spec =
     (λ c. search rules)
     (λ c κs. search rules)
     (λ c. search rules)
-    (λ c. put-nowhere _ _ _ _ (omega arith) c.before.before.before.place_of.ensures _ (rw c.enum_told.given.1 refl) (omega arith))
-    (λ c. put-nowhere _ _ _ _ (omega arith) c.before.before.before.place_of.ensures _ (rw c.enum-told2.given.1 refl) (omega arith))
-    (λ c. put-nowhere _ _ _ _ (omega arith) c.before.before.before.place_of.ensures _ (rw c.enum-told3.given.1 refl) (omega arith))
-    (λ c. put-nowhere _ _ _ _ (omega arith) c.before.before.before.place_of.ensures _ (rw c.enum-told4.given.1 refl) (omega arith))
-    (λ c. put-nowhere _ _ _ _ (omega arith) c.before.before.before.place_of.ensures _ (rw c.enum-told5.given.1 refl) (omega arith))
-    (λ c. put-nowhere _ _ _ _ (omega arith) c.before.before.before.place_of.ensures _ (rw c.enum-told6.given.1 refl) (omega arith))
+    (λ c. put_nowhere _ _ _ _ (omega arith) c.before.before.before.place_of.ensures _ (rw c.enum_told.given.1 refl) (omega arith))
+    (λ c. put_nowhere _ _ _ _ (omega arith) c.before.before.before.place_of.ensures _ (rw c.enum-told2.given.1 refl) (omega arith))
+    (λ c. put_nowhere _ _ _ _ (omega arith) c.before.before.before.place_of.ensures _ (rw c.enum-told3.given.1 refl) (omega arith))
+    (λ c. put_nowhere _ _ _ _ (omega arith) c.before.before.before.place_of.ensures _ (rw c.enum-told4.given.1 refl) (omega arith))
+    (λ c. put_nowhere _ _ _ _ (omega arith) c.before.before.before.place_of.ensures _ (rw c.enum-told5.given.1 refl) (omega arith))
+    (λ c. put_nowhere _ _ _ _ (omega arith) c.before.before.before.place_of.ensures _ (rw c.enum-told6.given.1 refl) (omega arith))
     (λ c. put-msr _ _ c.before.enum-told7.given.1 _ _ _ _ (c.before.before.before.before.before.writable_now.ensures ∙ rw c.before.before.before.before.before.before.locked.ensures) c.write2.ensures)
     (λ c. put-palmask _ _ c.before.enum-told8.given.1 _ _ _ _ (c.before.before.before.before.before.writable_now.ensures ∙ rw c.before.before.before.before.before.before.locked.ensures) c.write3.ensures)
-    (λ c. put-nowhere _ _ _ _ (omega arith) c.before.before.before.place_of.ensures _ (rw c.enum-told9.given.1 refl) (omega arith)))
+    (λ c. put_nowhere _ _ _ _ (omega arith) c.before.before.before.place_of.ensures _ (rw c.enum-told9.given.1 refl) (omega arith)))

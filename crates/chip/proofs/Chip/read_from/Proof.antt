@@ -27,7 +27,7 @@ read_from_spec =
     (λ c. search rules)
     (λ c. search rules)
     (λ c. rw (c.before.before.t.given.1, c.index.ensures))
-    (λ c. rw (c.before.before.before.t2.given.1, c.read_named.ensures, c.before.index2.ensures))
+    (λ c. rw (c.before.before.before.t2.given.1, c.get.ensures, c.before.index2.ensures))
     (λ c. rw (c.before.enum_told.given.1, c.palstate.ensures))
     (λ c. rw (c.enum-told2.given.1, loading_shown _))
     (λ c. rw (c.before.before.before.enum-told3.given.1, c.with-loading.ensures, c.before.move-on.ensures, c.before.before.paldata.ensures, loading_shown _))

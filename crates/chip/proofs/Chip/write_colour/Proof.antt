@@ -5,7 +5,7 @@ use Rattle.chip.specs.declared.Loading.{Loading}
 use Rattle.chip.specs.Access.{untold}
 use Rattle.chip.specs.declared.access.Answer.TheVariants.{Done}
 use Rattle.chip.proofs.ViewLaws.{loading_shown}
-use Rattle.chip.proofs.DifferLaws.{paldata-differs}
+use Rattle.chip.proofs.DifferLaws.{paldata_differs}
 use Rattle.chip.proofs.Chip.write_colour.Statement.{statement}
 use Rattle.chip.proofs.Chip.write_colour.Tie as tie
 
@@ -21,5 +21,5 @@ write_colour_spec =
     let h : a.self.loading.index < 256 = omega (arith, c.before.before.before.before.well-formed.0) in (
       ap (untold Done) c.before.before.load.ensures,
       rw (c.is_same.ensures, c.before.entry2.ensures, c.before.before.before.entry.ensures, c.before.before.load.ensures)
-          (sym (paldata-differs (view a.self) a.v a.self.loading.index (ap (λ (l : Loading). l.index) (loading_shown a.self)) h)),
+          (sym (paldata_differs (view a.self) a.v a.self.loading.index (ap (λ (l : Loading). l.index) (loading_shown a.self)) h)),
     )))
