@@ -3,6 +3,8 @@
 // the crate text_played's. A file is at most twelve blocks, 6,144 bytes; one byte more is read, so that a longer file is
 // seen to be longer and is refused, not cut. What is wrong with a file goes to standard error, in one line, and nothing is
 // printed.
+#![tactic(auto)]
+
 ghost use Rattle.std.specs.Prelude.{◌≡◌, length};
 
 use libc::STDERR_FILENO;

@@ -1,6 +1,7 @@
 // Block transfers: document 01, "Video memory and block transfers"; databook, chapter 17 and appendix E. A transfer over a lent
 // memory of any length, with numbers of any value: an equation with crate blit_frame's specs/Frame and with specs/Transfer; a
 // refusal changes no byte. Whether it is done is judged by blit_frame, its lines are done in `lines`.
+#![tactic(auto)]
 
 ghost use Rattle.std.specs.Prelude.{◌≡◌, length};
 ghost use Rattle.memory.specs.Memory.{answer_number};

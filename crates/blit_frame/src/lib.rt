@@ -3,6 +3,7 @@
 // memory. Numbers of any value are taken. The transfer itself is crate `blit`'s. An area lies in memory where its two outermost
 // bytes do. Of the pattern only the bytes that are addressed count: where its 64 bytes may run past the end, each line's first
 // eight bytes are looked at, since its pattern repeats after eight.
+#![tactic(auto)]
 
 ghost use Rattle.std.specs.Prelude.{◌≡◌, cond, true, false, not, ◌||◌, ℕ, ◌+◌, ◌-◌, ◌*◌, ◌%◌, ◌^◌, ◌<◌, ◌≤◌, ltb};
 ghost use Rattle.blit_raster.specs.Raster.{uses_source};
@@ -13,14 +14,14 @@ ghost use Rattle.blit_frame.specs.Lines.{Ranges, Missing, moved, low_of, pattern
 use memory::{Answer, Refusal, length_allowed};
 
 // Where a transfer's destination or source begins, and how far its lines are apart.
-#[derive(Drop)]
+#[derive(Clone, Copy)]
 pub struct Area {
     pub address: usize,
     pub span: usize,
 }
 
 // A transfer's numbers. Any value is accepted, and refused where document 01 says so.
-#[derive(Drop)]
+#[derive(Clone, Copy)]
 pub struct Transfer {
     pub destination: Area,
     pub source: Area,

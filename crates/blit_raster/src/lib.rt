@@ -2,6 +2,7 @@
 // and which of the operands a code depends on. Document 01, "Video memory and block transfers"; databook, appendix E.
 // The byte is the sum of eight terms, one for each bit of the code.
 // Callers rely on the three public contracts alone, which say nothing of how the byte is worked out.
+#![tactic(auto)]
 
 ghost use Rattle.std.specs.Prelude.{◌≡◌, ◌<◌};
 ghost use Rattle.lists.specs.Bits.{bit};

@@ -1,6 +1,8 @@
 // Set-ups to try: what a case of a table can say (specs/Cases), document 01's starred ones (specs/Starred), the
 // witnesses of must-fail edits (specs/Witnesses), and in code what the program
 // `setups` asks of a chip. The cases of document 02's requests are crate `cases_requests`.
+#![tactic(auto)]
+
 ghost use Rattle.std.specs.Prelude.{◌≡◌};
 ghost use Rattle.chip.specs.Access.{answer_number, port_written, port_read};
 ghost use Rattle.chip.specs.Differ.{differ};

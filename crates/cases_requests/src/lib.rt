@@ -1,4 +1,6 @@
 // Cases of document 02's requests: the table is specs/Asked; in code what the program `setups` asks of the writer.
+#![tactic(auto)]
+
 ghost use Rattle.std.specs.Prelude.{◌≡◌};
 ghost use Rattle.script_writer.specs.Write.{written, of_written};
 

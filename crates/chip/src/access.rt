@@ -12,7 +12,7 @@ use chip_ports::{Target, leads_to};
 use chip_registers::{Group, index_kept};
 
 // How an access ended.
-#[derive(Drop)]
+#[derive(Clone, Copy)]
 pub enum Answer {
     Done,
     Unlisted,
@@ -21,7 +21,7 @@ pub enum Answer {
 
 // What a port write hands back: the register's byte before and after it, FFh twice where it is refused or is of no
 // register's data, and whether it changed a register or a colour.
-#[derive(Drop)]
+#[derive(Clone, Copy)]
 pub struct Wrote {
     pub answer: Answer,
     pub before: u8,
@@ -31,7 +31,7 @@ pub struct Wrote {
 }
 
 // What a port read hands back; the value is FFh where it is refused.
-#[derive(Drop)]
+#[derive(Clone, Copy)]
 pub struct Seen {
     pub answer: Answer,
     pub value: u8,

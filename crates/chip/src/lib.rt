@@ -2,6 +2,8 @@
 // "Registers"; document 02, P1, for the attribute registers. The palette is in palette.rt, the attribute port in
 // attribute.rt, the port accesses in access.rt. Only `fill` with `new`, `get` and `put` touch the row, and `entry` and
 // `put_colour` the palette; everything else asks for a register or a colour.
+#![tactic(auto)]
+
 ghost use Rattle.std.specs.Prelude.{◌≡◌, ◌≤◌, if◌then◌else◌};
 ghost use Rattle.chip_registers.specs.Groups.{is_indexed};
 ghost use Rattle.chip_registers.specs.Row.{before, slot_of, row_size};
@@ -21,7 +23,7 @@ pub mod palette;
 const ROW: usize = 275;
 
 // A palette entry: three bytes.
-#[derive(Drop)]
+#[derive(Clone, Copy)]
 pub struct Rgb {
     pub red: u8,
     pub green: u8,
@@ -30,7 +32,7 @@ pub struct Rgb {
 
 // The seven index registers, of the attribute index the low five bits, and the turn of 3C0h: whether data comes
 // next.
-#[derive(Drop)]
+#[derive(Clone, Copy)]
 pub struct Indexes {
     pub cr: u8,
     pub sr: u8,
@@ -44,7 +46,7 @@ pub struct Indexes {
 
 // The palette's index and loading state: the position (0 red, 1 green, 2 blue; any other counts as
 // red, HOUSE), the bytes held at red and at green, and whether the read index was written last (PALSTATE).
-#[derive(Drop)]
+#[derive(Clone, Copy)]
 pub struct Loading {
     pub index: u8,
     pub position: u8,
@@ -55,7 +57,7 @@ pub struct Loading {
 
 // What is kept of the state: the listed registers in one row, in the order of the tables and of their indexes
 // (document 02, P7). The picture is bit 5 of the attribute index.
-#[derive(Drop)]
+#[derive(Clone, Copy)]
 pub struct Chip {
     pub row: [u8; 275],
     pub msr: u8,

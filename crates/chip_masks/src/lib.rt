@@ -6,6 +6,8 @@
 // A group is named by its number here: a number that a caller writes out leaves of the match on it one small table,
 // which the compiler makes part of the caller. An enum would go through memory, and one large table be called. The
 // mask and the place come from one match: of two on one number the compiler makes a jump.
+#![tactic(auto)]
+
 ghost use Rattle.std.specs.Prelude.{◌≡◌, ◌-◌, ◌*◌, ◌/◌, ◌%◌, ◌^◌, ◌<◌};
 ghost use Rattle.chip_registers.specs.Groups.{group_at, writable_of};
 ghost use Rattle.chip_masks.specs.Table.{line_of, standing_of};
@@ -14,11 +16,11 @@ use chip_registers::Group;
 
 // A line of the table: eight registers, a byte each, the first at the left. First their writable bits, then where
 // they stand in the row: 80h plus how far a register is from its group's first, and 00h for an unlisted index.
-#[derive(Drop)]
+#[derive(Clone, Copy)]
 struct Line(u64, u64);
 
 // What the table has of a register, as bytes of a line.
-#[derive(Drop)]
+#[derive(Clone, Copy)]
 pub struct Entry {
     // The bits that a write can change, a lock apart; none at an unlisted index.
     pub writable: u8,

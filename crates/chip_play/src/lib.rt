@@ -1,5 +1,7 @@
 // A script file played on a chip: translated into a lent buffer and run whole. Demand 3 is said in
 // specs/Demand3 and proved in proofs/Demand3; the entry here carries it.
+#![tactic(auto)]
+
 ghost use Rattle.std.specs.Prelude.{◌≡◌, ◌*◌, min, length};
 ghost use Rattle.chip.specs.View.{view};
 ghost use Rattle.script_commands.specs.Translation.{translated, left_by};
@@ -13,14 +15,14 @@ use script_commands::{Translated, translate};
 
 // What became of a script: it was refused, or its commands were run: so many were carried out, so many of these changed a
 // register or a colour (document 02, P6), and the run ended so.
-#[derive(Drop)]
+#[derive(Clone, Copy)]
 pub enum Outcome {
     NotPlayed(Refusal),
     Played(usize, usize, Ending),
 }
 
 // The state after a script, and what became of it.
-#[derive(Drop)]
+#[derive(Clone, Copy)]
 pub struct Performance {
     pub chip: Chip,
     pub outcome: Outcome,

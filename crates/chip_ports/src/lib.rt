@@ -1,13 +1,15 @@
 // Where each of the 65,536 port numbers leads, in both directions. Document 01, "Ports", and document 02, P1, for
 // the attribute registers.
 // What an access then does is crate `chip`'s.
+#![tactic(auto)]
+
 ghost use Rattle.std.specs.Prelude.{◌≡◌};
 ghost use Rattle.chip_ports.specs.Ports.{target};
 
 use chip_registers::Group;
 
 // What a port leads to.
-#[derive(Drop)]
+#[derive(Clone, Copy)]
 pub enum Target {
     // A group's index register.
     Index(Group),

@@ -3,6 +3,8 @@
 // of chapters 9 to 12 and 14 to 16 of the databook, MSR by chapter 8 and PALMASK by chapter 13; AR, the
 // attribute registers of chapter 12, is document 02's, P1.
 // The chip's state is not here: crate `chip` holds it.
+#![tactic(auto)]
+
 ghost use Rattle.std.specs.Prelude.{◌-◌, ◌^◌, ◌≡◌};
 ghost use Rattle.chip_registers.specs.Groups.{group_at, row_of, writable_of, reset_of};
 ghost use Rattle.chip_registers.specs.Indexes.{index_bits, index_kept, fits};
@@ -12,7 +14,7 @@ mod rows;
 
 // The groups of document 01's table and AR, in the order of their numbers. MSR and PALMASK are groups of one
 // register: whatever index goes with them is not looked at.
-#[derive(Drop)]
+#[derive(Clone, Copy)]
 pub enum Group {
     Cr,
     Sr,
@@ -27,7 +29,7 @@ pub enum Group {
 
 // A register as its chapter lists it, with its writable bits and its reset byte; or an index that the
 // chapter does not list.
-#[derive(Drop)]
+#[derive(Clone, Copy)]
 pub enum Row {
     Listed(u8, u8),
     Unlisted,

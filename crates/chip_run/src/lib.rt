@@ -1,6 +1,8 @@
 // The run of a list of commands on a chip, up to a limit. Document 01, "Commands", numbers 10, 2 and 1 in that
 // order, and the form of the result: an enum that says how it ended, with an inner enum for the reason. Document 02, P6:
 // how many commands changed a register or a colour.
+#![tactic(auto)]
+
 ghost use Rattle.std.specs.Prelude.{cond, ◌≡◌};
 ghost use Rattle.chip.specs.Differ.{differ};
 ghost use Rattle.chip.specs.View.{view};
@@ -13,7 +15,7 @@ use chip::access::Answer;
 use script_commands::{Command, CommandRead, command_of};
 
 // Why a command is refused: it has no known form, the ports are closed, or its port is not listed.
-#[derive(Drop)]
+#[derive(Clone, Copy)]
 pub enum Reason {
     Form,
     Closed,
@@ -21,14 +23,14 @@ pub enum Reason {
 }
 
 // What became of one command.
-#[derive(Drop)]
+#[derive(Clone, Copy)]
 pub enum Verdict {
     Done,
     Bad(Reason),
 }
 
 // One command: its verdict, the accumulator and the state after it, and whether a register or a colour differs then.
-#[derive(Drop)]
+#[derive(Clone, Copy)]
 pub struct Did {
     pub verdict: Verdict,
     pub acc: u8,
@@ -37,7 +39,7 @@ pub struct Did {
 }
 
 // How a run ended.
-#[derive(Drop)]
+#[derive(Clone, Copy)]
 pub enum Ending {
     Ended,
     AtLimit,
@@ -46,7 +48,7 @@ pub enum Ending {
 
 // What a run hands back: the state, how many commands were carried out, how many of these changed a register or a colour,
 // and how it ended.
-#[derive(Drop)]
+#[derive(Clone, Copy)]
 pub struct Ran {
     pub chip: Chip,
     pub count: usize,

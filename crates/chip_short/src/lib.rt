@@ -1,5 +1,7 @@
 // A script file played on a chip by its shorter list: document 02, P8. Demand 3 for that list is said in specs/Demand3 and proved
 // in proofs/Demand3; the entry here carries it.
+#![tactic(auto)]
+
 ghost use Rattle.std.specs.Prelude.{◌≡◌, length};
 ghost use Rattle.chip.specs.View.{view};
 ghost use Rattle.script_short.specs.Short.{short_translated, short_left_by};

@@ -3,6 +3,8 @@
 // document 01's number, or 255 for bytes that are no state. Nothing is worked out here: every
 // function calls a proved one and says its answer in numbers. Here are the versions, the reset and the port accesses;
 // then registers and colours by name, video memory, scripts and the run.
+#![tactic(auto)]
+
 ghost use Rattle.std.specs.Prelude.{◌≡◌, ◌/◌, ◌%◌};
 ghost use Rattle.chip.specs.Access.{port_written, port_read};
 ghost use Rattle.chip.specs.Reset.{reset as reset_of};

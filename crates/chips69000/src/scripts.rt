@@ -25,7 +25,7 @@ use script_short::translate_short;
 use script_writer::Written;
 
 // A number and its value.
-#[derive(Drop)]
+#[derive(Clone, Copy)]
 struct Two {
     number: u8,
     value: usize,

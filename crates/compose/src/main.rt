@@ -2,6 +2,8 @@
 // text_to_script's. A text is at most 1,048,576 bytes; one byte more is read, so that a longer text is seen to be longer
 // and is refused, not cut. What is wrong with a text goes to standard error, in one line with the number of the line that
 // it concerns, and nothing is written. Lines are counted from 1 there, as an editor counts them.
+#![tactic(auto)]
+
 ghost use Rattle.std.specs.Prelude.{◌≡◌, length};
 
 use libc::STDERR_FILENO;

@@ -4,6 +4,8 @@
 // unlisted index has no byte. Here are the registers by name, then the palette, then port 3C0h. The other indexes and
 // the port accesses are in access.rt; registers and colours as a host asks for them are crate `lent_names`'s. A port
 // access takes bytes of any length, and refuses all but a state's.
+#![tactic(auto)]
+
 ghost use Rattle.std.specs.Prelude.{◌≡◌, ◌+◌, ◌*◌, ◌/◌, ◌%◌, ◌<◌, not, length, if◌then◌else◌, nat_eq};
 ghost use Rattle.chip_registers.specs.Groups.{group_at};
 ghost use Rattle.chip_registers.specs.WriteRule.{under_lock};

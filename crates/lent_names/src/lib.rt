@@ -3,6 +3,8 @@
 // its group's number and its index. As by crate `chip`'s `get`, an index that is not listed is answered too, and MSR
 // and PALMASK are one register each, whatever the index.
 // What is public takes bytes of any length, and refuses all but a state's; then a number that no group has.
+#![tactic(auto)]
+
 ghost use Rattle.std.specs.Prelude.{◌≡◌, length};
 ghost use Rattle.chip_registers.specs.Groups.{group_at};
 ghost use Rattle.chip.specs.State.{named};
@@ -17,7 +19,7 @@ use lent_chip::access::STATE;
 use lent_chip::{PALETTE, PALMASK_GROUP, XR_GROUP, place};
 
 // What is answered of a register.
-#[derive(Drop)]
+#[derive(Clone, Copy)]
 pub enum Register {
     Byte(u8),
     // No group has the number.
@@ -27,7 +29,7 @@ pub enum Register {
 }
 
 // What is answered of a colour.
-#[derive(Drop)]
+#[derive(Clone, Copy)]
 pub enum Colour {
     Given(Rgb),
     // The bytes are no state: their length is wrong.

@@ -1,6 +1,8 @@
 // A script file played on lent bytes: translated into a lent buffer, and its commands run in place. The text is
 // that of crate `chip_play`, whose definition it meets on the chip that the bytes hold. Demand 3 is said of the whole script by
 // the contract, and after each step in specs/Demand3.
+#![tactic(auto)]
+
 ghost use Rattle.std.specs.Prelude.{◌≡◌, length};
 ghost use Rattle.chip_play.specs.Played.{played};
 ghost use Rattle.lent_chip.specs.Layout.{view, spare};
@@ -13,7 +15,7 @@ use lent_run::{LentRan, run};
 use script_commands::{Translated, translate};
 
 // What is answered.
-#[derive(Drop)]
+#[derive(Clone, Copy)]
 pub enum LentPlayed {
     // What became of the script.
     Met(Outcome),

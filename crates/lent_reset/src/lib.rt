@@ -2,6 +2,8 @@
 // two pin bytes.
 // Whatever the bytes held, they hold afterwards the chip that crate `chip`'s reset gives, and their spare bits
 // (crate `lent_chip`, specs/Layout) are 0: a host need not clear the bytes before the first reset.
+#![tactic(auto)]
+
 ghost use Rattle.std.specs.Prelude.{◌≡◌, length};
 ghost use Rattle.chip_registers.specs.Groups.{group_at};
 ghost use Rattle.chip.specs.Reset.{reset as reset_of};
@@ -19,7 +21,7 @@ use lent_chip::place;
 const NAMES: usize = 2304;
 
 // What a reset answers.
-#[derive(Drop)]
+#[derive(Clone, Copy)]
 pub enum LentReset {
     Done,
     // The bytes are no state: their length is wrong.

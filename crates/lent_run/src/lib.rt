@@ -2,6 +2,8 @@
 // that of crate `chip_run`, whose definition it meets on the chip that the bytes hold: no state is copied. A command
 // answers by document 01's number; its reason is made of that once, where the run stops. Document 02, P6: how many
 // commands changed a register or a colour.
+#![tactic(auto)]
+
 ghost use Rattle.std.specs.Prelude.{◌≡◌, not, cond, ◌||◌, ◌/◌, ◌%◌, eqb, leb, length};
 ghost use Rattle.chip.specs.Access.{port_written, port_read};
 ghost use Rattle.script_commands.specs.Command.{command_of};
@@ -16,7 +18,7 @@ use script_commands::{Command, CommandRead, command_of};
 
 // What a run answers: how many commands were carried out, how many of these changed a register or a colour, and how it
 // ended.
-#[derive(Drop)]
+#[derive(Clone, Copy)]
 pub enum LentRan {
     Ran(usize, usize, Ending),
     // The bytes are no state: their length is wrong.
@@ -24,7 +26,7 @@ pub enum LentRan {
 }
 
 // One command: its number, 0 where it is done, the accumulator after it, and 1 where a register or a colour differs then.
-#[derive(Drop)]
+#[derive(Clone, Copy)]
 struct Turn {
     number: u8,
     acc: u8,

@@ -2,6 +2,8 @@
 // The text is the crate text_listing's. A file is at most twelve blocks, 6,144 bytes; one byte more is read, so that a
 // longer file is seen to be longer and is refused, not cut. Where a file is refused, standard error has the place, the
 // number and its words, in one line.
+#![tactic(auto)]
+
 ghost use Rattle.std.specs.Prelude.{◌≡◌, length};
 
 use libc::STDERR_FILENO;

@@ -1,6 +1,8 @@
 // What several layers ask of a list of bytes: the byte at a place, a byte as a number, and whether a
 // length is so many whole units. The definitions are in specs/, one file a subject; the laws that other
 // crates cite are in proofs/ (Tests, Scan, Tab, Put, Parts). Nothing here knows a step or a block.
+#![tactic(auto)]
+
 ghost use Rattle.std.specs.Prelude.{◌≡◌, ◌<◌, get_or};
 ghost use Rattle.lists.specs.Units.{whole_units};
 

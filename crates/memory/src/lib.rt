@@ -1,13 +1,14 @@
 // Video memory that the caller lends, one byte at a time: document 01, "Video memory and block transfers". A linear read and a
 // linear write, over a memory of any length and at any place, each an equation with specs/Memory; a refusal changes no byte. The
 // answers, with document 01's numbers, are those of block transfers too (crates `blit_frame` and `blit`).
+#![tactic(auto)]
 
 ghost use Rattle.std.specs.Prelude.{◌≡◌, length};
 ghost use Rattle.memory.specs.Memory.{refusal_number, answer_number, read_number, read_value, length_allowed};
 ghost use Rattle.memory.specs.Memory.{byte_read, byte_number, byte_value, write_answer, byte_written};
 
 // Why nothing was done: document 01's numbers 3, 5 and 4.
-#[derive(Drop)]
+#[derive(Clone, Copy)]
 pub enum Refusal {
     Length,
     Range,
@@ -15,14 +16,14 @@ pub enum Refusal {
 }
 
 // What a write or a transfer answers.
-#[derive(Drop)]
+#[derive(Clone, Copy)]
 pub enum Answer {
     Done,
     Refused(Refusal),
 }
 
 // What a read answers.
-#[derive(Drop)]
+#[derive(Clone, Copy)]
 pub enum Read {
     Byte(u8),
     Unread(Refusal),

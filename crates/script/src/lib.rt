@@ -2,6 +2,8 @@
 // beside the caller's bytes (document 01, Scripts; numbers 8 and 6, and then 7 or, by document 02, P2, 11 for
 // the first step that does not pass). The definitions are in specs/: Block, File, Reader, Numbers. The reader as
 // a struct over the bytes is the crate script_reader, and making a file is the crate script_writer.
+#![tactic(auto)]
+
 ghost use Rattle.std.specs.Prelude.{◌≡◌, ◌+◌, ◌*◌, ◌%◌, ◌/◌, ◌≤◌, length, take, drop};
 ghost use Rattle.lists.specs.Numbers.{returned};
 ghost use Rattle.script_steps.specs.Step.{step_read_number, bytes_table};
@@ -14,14 +16,14 @@ use lists::{is_whole, wide};
 use script_steps::{Fault, Step, StepRead, read_at};
 
 // How steps stand in a list of bytes: one after another, or in the blocks of a file.
-#[derive(Drop)]
+#[derive(Clone, Copy)]
 pub enum Layout {
     Plain,
     Blocks,
 }
 
 // Why a file, a step list or an output is refused.
-#[derive(Drop)]
+#[derive(Clone, Copy)]
 pub enum Refusal {
     Length,
     Block(usize),
@@ -56,14 +58,14 @@ impl Refusal {
 }
 
 // What checking a file answers: its number of steps, or the refusal.
-#[derive(Drop)]
+#[derive(Clone, Copy)]
 pub enum Checked {
     Accepted(usize),
     Refused(Refusal),
 }
 
 // What the reader answers: a step, the refusal, or after the last step the end.
-#[derive(Drop)]
+#[derive(Clone, Copy)]
 pub enum Next {
     Found(Step),
     Refused(Refusal),
@@ -71,13 +73,13 @@ pub enum Next {
 }
 
 // The reader as a position beside the caller's bytes: the number of the step that it stands at.
-#[derive(Drop)]
+#[derive(Clone, Copy)]
 pub struct Position {
     pub at: usize,
 }
 
 // What a turn of the reader gives: its answer, and where it then stands.
-#[derive(Drop)]
+#[derive(Clone, Copy)]
 pub struct Turn {
     pub next: Next,
     pub place: Position,

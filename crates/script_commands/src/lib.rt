@@ -1,5 +1,7 @@
 // Commands: four bytes each, and the commands that a script's steps stand for. Document 01, "Commands", and
 // number 9 for commands; document 02, P1, for group 8. Running them is crate `chip_run`'s.
+#![tactic(auto)]
+
 ghost use Rattle.std.specs.Prelude.{◌≡◌, cond, [], ◌∷◌, ℕ, ◌+◌, ◌*◌, ◌≤◌, ◌%◌, ◌/◌, ltb, length};
 ghost use Rattle.script.specs.File.{checked};
 ghost use Rattle.lists.specs.Put.{Added};
@@ -14,7 +16,7 @@ use script_reader::nth;
 use script_steps::Step;
 
 // A command is one of four kinds.
-#[derive(Drop)]
+#[derive(Clone, Copy)]
 pub enum Command {
     // A byte to a port.
     Out(u16, u8),
@@ -27,14 +29,14 @@ pub enum Command {
 }
 
 // What four bytes are.
-#[derive(Drop)]
+#[derive(Clone, Copy)]
 pub enum CommandRead {
     Known(Command),
     Unknown,
 }
 
 // How a group's registers are reached.
-#[derive(Drop)]
+#[derive(Clone, Copy)]
 pub enum Ways {
     // An index port and a data port.
     Pair(u16, u16),
@@ -49,7 +51,7 @@ pub enum Ways {
 }
 
 // What the translation of a file answers: how many commands there are, or why it is refused.
-#[derive(Drop)]
+#[derive(Clone, Copy)]
 pub enum Translated {
     Commands(usize),
     Refused(Refusal),

@@ -3,6 +3,8 @@
 // `next_at` of the crate script, and is proved by a walk of its code by hand; whoever calls `nth`, which has
 // plain parameters, needs none. What the reader answers is `next_of` of that crate's specs/Reader, and its number
 // `next_table` of specs/Numbers.
+#![tactic(auto)]
+
 ghost use Rattle.std.specs.Prelude.{◌≡◌};
 ghost use Rattle.script.specs.Reader.{next_of};
 ghost use Rattle.script.specs.Numbers.{of_next, next_table};
@@ -10,7 +12,7 @@ ghost use Rattle.script.specs.Numbers.{of_next, next_table};
 use script::{Next, next_at};
 
 // The caller's bytes, and the number of the step that the reader stands at.
-#[derive(Drop)]
+#[derive(Clone, Copy)]
 pub struct Reader<'a> {
     pub src: &'a [u8],
     pub at: usize,

@@ -1,6 +1,8 @@
 // A script file translated into a shorter list of commands: document 02, P8. The definition, on the plain list, is specs/Short.
 // The steps are read as for the plain list (crate `script_commands`), and each is put behind the others with or without its
 // index: an array has what each group was last sent. So nothing is written that is then taken back.
+#![tactic(auto)]
+
 ghost use Rattle.std.specs.Prelude.{◌≡◌, ℕ, ◌*◌, ◌≤◌, length};
 ghost use Rattle.script.specs.File.{checked};
 ghost use Rattle.script_commands.specs.Known.{expanded_known};

@@ -3,6 +3,8 @@
 // definition, `judged` of specs/Step, and in one function, `judge`. Group and index are numbers here; which
 // bits of their register can be written is asked of the register's row, and what the register holds is the
 // chip's.
+#![tactic(auto)]
+
 ghost use Rattle.std.specs.Prelude.{◌≡◌, [], ◌∷◌, take, drop};
 ghost use Rattle.script_steps.specs.Step.{names, legal, unwritable, idle, judged, shaped, step_of, read_at, bytes_of, fault_number, step_read_number, step_table, bytes_table};
 
@@ -10,7 +12,7 @@ use chip_masks::writable;
 use chip_registers::{group_at, index_fits};
 
 // A step read is one of three kinds..
-#[derive(Drop)]
+#[derive(Clone, Copy)]
 pub enum Step {
     Set {
         group: u8,
@@ -32,14 +34,14 @@ pub enum Step {
 }
 
 // ..and otherwise a refusal.
-#[derive(Drop)]
+#[derive(Clone, Copy)]
 pub enum StepRead {
     Good(Step),
     Refused(Fault),
 }
 
 // Why a step is refused.
-#[derive(Drop)]
+#[derive(Clone, Copy)]
 pub enum Fault {
     // It is none of the allowed.
     Unallowed,

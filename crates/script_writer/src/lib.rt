@@ -3,6 +3,8 @@
 // byte of the output, and the bytes after the file keep their value. The definition is specs/Write; that reading
 // back what was written gives the same steps, and writing the steps of an accepted file the same bytes, is
 // proofs/RoundTrip.
+#![tactic(auto)]
+
 ghost use Rattle.std.specs.Prelude.{◌≡◌, ◌+◌, ◌*◌, ◌<◌, ◌≤◌, length};
 ghost use Rattle.lists.specs.Put.{put};
 ghost use Rattle.script_writer.specs.Write.{steps_here, header, places, block_of, blocks_to, written, left_by, of_written, written_table};
@@ -11,7 +13,7 @@ use lists::{byte_at, is_whole};
 use script::{Checked, Layout, Refusal, check_steps, check_word, last_mark};
 
 // What the writer answers: the number of blocks, or the refusal.
-#[derive(Drop)]
+#[derive(Clone, Copy)]
 pub enum Written {
     Blocks(usize),
     Refused(Refusal),

@@ -2,6 +2,8 @@
 // `P1.2 ok`, or the bytes that came out instead. The cases marked *, and those of requests, are also rows of the
 // tables of crates `cases` and `cases_requests`, which are proved. A case is sixteen bytes:
 // what came out, and zeros after it.
+#![tactic(auto)]
+
 ghost use Rattle.std.specs.Prelude.{◌≤◌};
 
 use blit::block_transfer;

@@ -2,6 +2,8 @@
 // groups and indexes, with its writable bits and the byte that it reads after a reset with both pin bytes
 // FFh, as `cr_lines 07 FF 00`; MSR and PALMASK, which have no index, stand where their numbers are. All of it comes
 // from `registers` and `chip`.
+#![tactic(auto)]
+
 use chip::Chip;
 use chip_registers::{Group, Row, row_of};
 use libc::STDOUT_FILENO;

@@ -1,13 +1,15 @@
 // Standard input read whole and standard output written whole, with a failure told: for programs that read a file and print
 // an answer. What a program says then is one line on standard error, `NAME: cannot read standard input` or `NAME: cannot
 // write standard output`. No contract can say what is read or written; what is lent to be written stays as it is.
+#![tactic(auto)]
+
 ghost use Rattle.std.specs.Prelude.{◌≡◌, ◌+◌, ◌-◌, ◌≤◌, length};
 ghost use Rattle.streams.specs.Got.{Within};
 
 use libc::{STDERR_FILENO, STDIN_FILENO, STDOUT_FILENO};
 
 // How many bytes came, or that a read failed.
-#[derive(Drop)]
+#[derive(Clone, Copy)]
 pub enum Got {
     Bytes(usize),
     Failed,

@@ -1,5 +1,7 @@
 // Text that a program prints, as bytes in ASCII: capital hexadecimal digits, numbers in decimal, and bytes put one behind the
 // other into a lent output. The definitions are specs/Digits, specs/Refused and specs/Adding.
+#![tactic(auto)]
+
 ghost use Rattle.std.specs.Prelude.{◌≡◌, ◌+◌, ◌≤◌, ◌<◌, true, false, leb, length};
 ghost use Rattle.text.specs.Digits.{last_digit, decimal_in, decimal};
 ghost use Rattle.text.specs.Refused.{refused, placed};

@@ -1,6 +1,8 @@
 // What differs between two states of the chip by name, as text: a line for each register and for each palette entry that
 // differs. The definition is specs/Changes; a register's name is the crate text_steps's, and digits the crate text's.
 // Printing the text is a program's.
+#![tactic(auto)]
+
 ghost use Rattle.std.specs.Prelude.{◌≡◌, ◌+◌, ◌≤◌, ◌<◌, length};
 ghost use Rattle.chip.specs.State.{named};
 ghost use Rattle.chip.specs.View.{view};

@@ -1,6 +1,8 @@
 // A script's commands and what each of them did on a chip after a reset, as text. Document 02, P6. The definition is
 // specs/Effects; a command is the crate chip_run's, its words the crate text_listing's, and what differs the crate
 // text_changes'. Reading a file and printing the text is the program effects'.
+#![tactic(auto)]
+
 ghost use Rattle.std.specs.Prelude.{◌≡◌, ◌+◌, ◌*◌, ◌/◌, ◌%◌, ◌≤◌, length};
 ghost use Rattle.lists.specs.Put.{Added};
 ghost use Rattle.chip.specs.Differ.{differ};
@@ -19,7 +21,7 @@ use text_changes::tell_changes;
 use text_listing::add_words;
 
 // What telling a script's effects answers: how many bytes of text there are, or the refusal.
-#[derive(Drop)]
+#[derive(Clone, Copy)]
 pub enum Told {
     Text(usize),
     Refused(Refusal),

@@ -1,5 +1,7 @@
 // A script file shown as text, a line a step. The definition is specs/Show; a step's line is the crate text_steps's. Reading a
 // file and printing the text, or saying what is wrong with the file, is the program show's.
+#![tactic(auto)]
+
 ghost use Rattle.std.specs.Prelude.{◌≡◌, ◌*◌, ◌≤◌, length};
 ghost use Rattle.script.specs.File.{checked};
 ghost use Rattle.text_from_script.specs.Show.{without_step, LinesPut, shown, left_by, of_shown, shown_table};
@@ -10,7 +12,7 @@ use script_steps::Step;
 use text_steps::add_step;
 
 // What showing a file answers: how many bytes of text there are, or the refusal.
-#[derive(Drop)]
+#[derive(Clone, Copy)]
 pub enum Shown {
     Text(usize),
     Refused(Refusal),

@@ -3,6 +3,8 @@
 // chip after a reset. The commands are those of the plain list, or of the shorter list of document 02, P8. The definition is
 // specs/Text, with the lines in specs/Line and the digits in the crate text. Reading a file and printing the text is the
 // programs', listing and short.
+#![tactic(auto)]
+
 ghost use Rattle.std.specs.Prelude.{◌≡◌, ◌++◌, ◌+◌, ◌*◌, ◌≤◌, length};
 ghost use Rattle.script_commands.specs.Translation.{translated, left_by as translatedBy};
 ghost use Rattle.script_short.specs.Short.{short_translated, short_left_by};
@@ -22,7 +24,7 @@ use text::{add, add_decimal, add_refused, digit, has_room};
 
 // What the listing answers: how many bytes of text there are, for a file that is refused with the refusal; or that the
 // output is too short.
-#[derive(Drop)]
+#[derive(Clone, Copy)]
 pub enum Listed {
     Text(usize),
     Refused(Refusal, usize),

@@ -1,6 +1,8 @@
 // A script file played on a chip after a reset, and what then differs from the reset as text. The definition is specs/Told;
 // playing is the crate chip_play's, and what differs the crate text_changes'. Reading a file and printing the text is the program
 // after's.
+#![tactic(auto)]
+
 ghost use Rattle.std.specs.Prelude.{◌≡◌, ◌+◌, ◌≤◌, length};
 ghost use Rattle.lists.specs.Put.{Added};
 ghost use Rattle.chip.specs.State.{named};
@@ -17,7 +19,7 @@ use text::{add, add_decimal};
 use text_changes::tell_changes;
 
 // What telling a script answers: how many bytes of text there are, or the refusal.
-#[derive(Drop)]
+#[derive(Clone, Copy)]
 pub enum Told {
     Text(usize),
     Refused(Refusal),

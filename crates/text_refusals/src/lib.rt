@@ -1,5 +1,7 @@
 // What a program says of a file that it refuses, and the words of each number. The definitions are specs/Words and
 // specs/Complaint. Printing the line is a program's.
+#![tactic(auto)]
+
 ghost use Rattle.std.specs.Prelude.{◌+◌, ◌≤◌, length};
 ghost use Rattle.lists.specs.Put.{Added};
 ghost use Rattle.text.specs.Adding.{AddedIn};

@@ -1,6 +1,8 @@
 // All registers by name as text, for a program that shows the chip's state: a paragraph for each group, sixteen registers to
 // a line. The definition is specs/Text, with the lines in specs/Line, the names in the crate text_steps and the digits in the
 // crate text. Printing the text is a program's.
+#![tactic(auto)]
+
 ghost use Rattle.std.specs.Prelude.{◌≡◌, ◌+◌, ◌*◌, ◌≤◌, length};
 ghost use Rattle.chip_registers.specs.Groups.{row_of};
 ghost use Rattle.chip.specs.State.{named};

@@ -1,5 +1,7 @@
 // A step as a line of text, for those who write scripts by hand: written, and read; and a register's name alone. The
 // definitions are specs/Written and specs/Reading; that a written step reads back as itself is proofs/ReadBack.
+#![tactic(auto)]
+
 ghost use Rattle.std.specs.Prelude.{◌≡◌, ◌+◌, ◌≤◌, true, length, take};
 ghost use Rattle.lists.specs.Put.{Added};
 ghost use Rattle.text.specs.Adding.{AddedIn};
@@ -11,14 +13,14 @@ use text::{add, digit};
 use text_tokens::{Tokens, byte_of, is_byte, tokens_of};
 
 // A register's name: its group and index, or a word that names none.
-#[derive(Drop)]
+#[derive(Clone, Copy)]
 pub enum Name {
     Of(u8, u8),
     None,
 }
 
 // What a line says: nothing, a step, or what is of another form.
-#[derive(Drop)]
+#[derive(Clone, Copy)]
 pub enum Line {
     Pass,
     Is(Step),

@@ -2,6 +2,8 @@
 // specs/Compose; how a line is read is the crate text_steps's, and the file the crate script_writer's. That composing what the
 // crate text_from_script makes of a file gives the file again is proofs/SameFile. Reading a text and printing the file is the
 // program compose's.
+#![tactic(auto)]
+
 ghost use Rattle.std.specs.Prelude.{◌≡◌, ◌+◌, ◌≤◌, ◌<◌, length};
 ghost use Rattle.lists.specs.Put.{Added};
 ghost use Rattle.text.specs.Adding.{AddedIn};
@@ -20,7 +22,7 @@ use text_refusals::add_reason;
 use text_steps::{Line, read_line};
 
 // What a line comes to: it is fine; it is of another form; its step does not pass; its step is one too many.
-#[derive(Drop)]
+#[derive(Clone, Copy)]
 pub enum Verdict {
     Fine,
     Form,
@@ -29,7 +31,7 @@ pub enum Verdict {
 }
 
 // What composing a text answers: the number of blocks, the line that is not fine, counted from 0, or what the writer refuses.
-#[derive(Drop)]
+#[derive(Clone, Copy)]
 pub enum Composed {
     Blocks(usize),
     Stopped(Verdict, usize),
@@ -37,7 +39,7 @@ pub enum Composed {
 }
 
 // The lines of a text gathered: how many bytes of steps there are, or the line that is not fine.
-#[derive(Drop)]
+#[derive(Clone, Copy)]
 enum Gathered {
     Steps(usize),
     Stopped(Verdict, usize),

@@ -1,12 +1,14 @@
 // A line of text as words, and words as hexadecimal numbers: what a program reads. The definitions are specs/Tokens and
 // specs/Hex.
+#![tactic(auto)]
+
 ghost use Rattle.std.specs.Prelude.{◌≡◌};
 ghost use Rattle.text_tokens.specs.Tokens.{capital, grown, ended, taken, tokens_of};
 ghost use Rattle.text_tokens.specs.Hex.{digit_value, is_digit, is_byte, byte_of, all_digits, value_in, number_of};
 
 // The words of a line: how many, at most thirteen; the one that has begun, 0 between words; and each of them, 0 where there is
 // none.
-#[derive(Drop)]
+#[derive(Clone, Copy)]
 pub struct Tokens {
     pub count: usize,
     pub begun: u64,
@@ -14,7 +16,7 @@ pub struct Tokens {
 }
 
 // A word read as a number of up to eight hexadecimal digits.
-#[derive(Drop)]
+#[derive(Clone, Copy)]
 pub enum Number {
     Of(u32),
     Other,

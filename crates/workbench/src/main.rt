@@ -3,6 +3,8 @@
 // asks for is the crate workbench_requests', what it does the crate workbench_input's, and the text of a reply the crate
 // workbench_replies'. Replies are printed where a piece of input ends, and where their text leaves no room for another. A last
 // line needs no line feed. It ends where the input does, or where the end is asked for.
+#![tactic(auto)]
+
 ghost use Rattle.std.specs.Prelude.{◌<◌, ◌≤◌, length};
 
 use chip::Chip;
@@ -12,7 +14,7 @@ use workbench_input::lines::{Fed, Input, feed};
 use workbench_input::{Bench, shorter_of};
 
 // Whether there may be more input, and how far it has come.
-#[derive(Drop)]
+#[derive(Clone, Copy)]
 struct After {
     more: bool,
     input: Input,

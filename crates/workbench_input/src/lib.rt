@@ -1,6 +1,8 @@
 // Requests carried out. The bench holds the chip, says how many bytes of a store that the caller lends are video memory, and
 // whether the end was asked for. A request gives a reply and the bench after it, and changes the store only as its definition
 // says. The definitions are specs/Acts; lines of input, each with its request, are lines.rt.
+#![tactic(auto)]
+
 ghost use Rattle.std.specs.Prelude.{◌≡◌, ◌≤◌, length};
 ghost use Rattle.chip.specs.State.{named};
 ghost use Rattle.chip.specs.Access.{port_written, port_read};
@@ -22,7 +24,7 @@ use workbench_requests::Request;
 pub mod lines;
 
 // The chip, how many bytes of the store are its video memory, and whether the end was asked for.
-#[derive(Drop)]
+#[derive(Clone, Copy)]
 pub struct Bench {
     pub chip: Chip,
     pub lent: usize,
@@ -30,7 +32,7 @@ pub struct Bench {
 }
 
 // The bench after a request, and the reply.
-#[derive(Drop)]
+#[derive(Clone, Copy)]
 pub struct Acted {
     pub bench: Bench,
     pub reply: Reply,

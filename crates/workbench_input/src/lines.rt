@@ -11,14 +11,14 @@ use workbench_replies::print;
 use workbench_requests::{Request, request_of};
 
 // The bench after a line, and where the next reply goes.
-#[derive(Drop)]
+#[derive(Clone, Copy)]
 pub struct Answered {
     pub bench: Bench,
     pub next: usize,
 }
 
 // How far the input has come: the bench, how many bytes the line so far has, and where the next byte of the text goes.
-#[derive(Drop)]
+#[derive(Clone, Copy)]
 pub struct Input {
     pub bench: Bench,
     pub size: usize,
@@ -26,7 +26,7 @@ pub struct Input {
 }
 
 // The input after some of its bytes, and the place of the next one.
-#[derive(Drop)]
+#[derive(Clone, Copy)]
 pub struct Fed {
     pub input: Input,
     pub from: usize,

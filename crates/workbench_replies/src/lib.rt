@@ -1,6 +1,8 @@
 // The text of an answer of the workbench, put into a lent output: a number, a byte, two bytes, a colour, all registers, or
 // that the line was not known. The definition is specs/Reply; all registers are the crate text_registers's, and digits the
 // crate text's.
+#![tactic(auto)]
+
 ghost use Rattle.std.specs.Prelude.{◌+◌, ◌≤◌, length};
 ghost use Rattle.chip.specs.State.{named};
 ghost use Rattle.chip.specs.View.{view};
@@ -13,7 +15,7 @@ use text::{add, add_decimal, digit, has_room};
 use text_registers::dump;
 
 // An answer.
-#[derive(Drop)]
+#[derive(Clone, Copy)]
 pub enum Reply {
     // A number: 0 where it was done, else why not.
     Number(u8),

@@ -1,5 +1,7 @@
 // A line's words read as a request to the workbench: its name, the numbers of its form, and no word behind them. The
 // definition is specs/Request. What a line's words are is the crate text_tokens'; what a request does is not here.
+#![tactic(auto)]
+
 ghost use Rattle.std.specs.Prelude.{◌≡◌, ◌≤◌, eqb};
 ghost use Rattle.workbench_requests.specs.Request.{fits as isUpTo, value as valueUpTo, is_transfer, transfer_of, request_of};
 
@@ -7,7 +9,7 @@ use blit_frame::{Area, Transfer};
 use text_tokens::{Number, Tokens, number_of};
 
 // What a line asks for.
-#[derive(Drop)]
+#[derive(Clone, Copy)]
 pub enum Request {
     // `RESET A B`: a reset with two pin bytes.
     Reset(u8, u8),
