@@ -166,7 +166,7 @@ fn pattern_inside(n: usize, t: Transfer) -> bool
     requires ranges { Ranges t }
     requires n_bound { n ≤ 2097152 }
     requires destination_value { every_byte t (within n t t.destination) ≡ true }
-    ensures* { λ r. ⌜ r ≡ every_byte t (λ r c. ltb (pattern_place t r c) n) ⌝ }
+    ensures { result ≡ every_byte t (λ r c. ltb (pattern_place t r c) n) }
 {
     if n <= t.pattern_address {
         return false;

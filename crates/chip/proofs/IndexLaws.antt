@@ -49,8 +49,8 @@ byte_other g Ar x v e = rw e
 pub index_same : (g : Group) (x : Indexes) (v : ℕ) → index_of g (with_index g x v) ≡ index_kept g v
 index_same g x v = ap (index_kept g) (byte-written g x v) ∙ kept_again g v
 
-pub index_kept : (g : Group) (x : Indexes) (v : ℕ) → with_index g x (index_kept g v) ≡ with_index g x v
-index_kept g x v = ap (with_index_byte g x) (kept_again g v)
+pub index_kept_lem : (g : Group) (x : Indexes) (v : ℕ) → with_index g x (index_kept g v) ≡ with_index g x v
+index_kept_lem g x v = ap (with_index_byte g x) (kept_again g v)
 
 pub index_other : (g h : Group) (x : Indexes) (v : ℕ) → (number_of g ≡ number_of h → ⊥) → index_of h (with_index g x v) ≡ index_of h x
 index_other g h x v other = ap (index_kept h) (byte_other g h x v (ne_eqb (number_of g) (number_of h) other))
@@ -97,7 +97,7 @@ module _ (c : Chip) (p v : ℕ) (g : Group) (free : ports_open (named c) ≡ tru
 pub index_folds : (c : Chip) (p v : ℕ) (g : Group) → ports_open (named c) ≡ true → target (picks3_dx (named c)) true p ≡ Index g
     → port_written c p v ≡ port_written c p (index_kept g v)
 index_folds c p v g free writes =
-    write_index c p v g free writes ∙ ap (λ (x : Indexes). untold Done (with_indexes c x)) (sym (index_kept g c.indexes v))
+    write_index c p v g free writes ∙ ap (λ (x : Indexes). untold Done (with_indexes c x)) (sym (index_kept_lem g c.indexes v))
     ∙ sym (write_index c p (index_kept g v) g free writes)
 
 -- the pair that MSR bit 0 does not pick reads FFh and writes nothing, its index port like its data port
