@@ -1,6 +1,6 @@
 // The sheet that a volunteer lays beside the databook: every listed register, a line each in the order of
 // groups and indexes, with its writable bits and the byte that it reads after a reset with both pin bytes
-// FFh, as `cr_lines 07 FF 00`; MSR and PALMASK, which have no index, stand where their numbers are. All of it comes
+// FFh, as `CR 07 FF 00`; MSR and PALMASK, which have no index, stand where their numbers are. All of it comes
 // from `registers` and `chip`.
 #![tactic(auto)]
 
@@ -28,7 +28,7 @@ fn print_row(mask: u8, byte: u8) {
     io::write_all(STDOUT_FILENO, &text);
 }
 
-// The name of an indexed register: `cr_lines 07`.
+// The name of an indexed register: `CR 07`.
 fn print_name(letter: u8, i: u8) {
     let text = [letter, b'R', b' ', digit(i / 16), digit(i)];
     io::write_all(STDOUT_FILENO, &text);
