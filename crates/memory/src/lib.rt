@@ -57,6 +57,7 @@ pub fn length_allowed(n: usize) -> bool
 }
 
 // The byte at a place of the memory.
+#[tactic(auto, unfolding(crate::specs::Memory::byte_read, crate::specs::Memory::byte_number, crate::specs::Memory::byte_value))]
 pub fn read_byte(mem: &[u8], at: usize) -> Read
     ensures value { result ≡ byte_read mem.now at }
     ensures result_value { read_number result ≡ byte_number (length mem.now) at }
@@ -72,6 +73,7 @@ pub fn read_byte(mem: &[u8], at: usize) -> Read
 }
 
 // The byte at a place of the memory becomes v.
+#[tactic(auto, unfolding(crate::specs::Memory::write_answer, crate::specs::Memory::byte_number))]
 pub fn write_byte(mem: &mut [u8], at: usize, v: u8) -> Answer
     ensures value { result ≡ write_answer mem.old at }
     ensures result_value { answer_number result ≡ byte_number (length mem.old) at }
