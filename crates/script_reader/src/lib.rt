@@ -1,8 +1,7 @@
 // The reader that stands over the caller's script bytes: a thin struct of the slice and the position
 // (document 01, Scripts; Forms we want to see). Each function takes the struct apart, or makes it, around
-// `next_at` of the crate script, and is proved by a walk of its code by hand; whoever calls `nth`, which has
-// plain parameters, needs none. What the reader answers is `next_of` of that crate's specs/Reader, and its number
-// `next_table` of specs/Numbers.
+// `next_at` of the crate script; `nth` has plain parameters. What the reader answers is `next_of` of that crate's
+// specs/Reader, and its number `next_table` of specs/Numbers.
 #![tactic(auto)]
 
 ghost use Rattle.std.specs.Prelude.{◌≡◌};
