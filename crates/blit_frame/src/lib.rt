@@ -189,6 +189,7 @@ fn pattern_inside(n: usize, t: Transfer) -> bool
 }
 
 // Number 4 is for a transfer that is not.
+#[tactic(auto, unfolding(crate::specs::Frame::is_in_memory))]
 fn inside(n: usize, t: Transfer) -> bool
     requires ranges { Ranges t }
     requires n_bound { n ≤ 2097152 }
@@ -207,6 +208,7 @@ fn inside(n: usize, t: Transfer) -> bool
 }
 
 // What a transfer answers in a memory of n bytes: 3 goes before 5, and 5 before 4.
+#[tactic(auto, unfolding(crate::specs::Frame::judged, crate::specs::Frame::judged_number))]
 pub fn judge(n: usize, t: Transfer) -> Answer
     ensures value { result ≡ judged n t }
     ensures result_value { answer_number result ≡ judged_number n t }
