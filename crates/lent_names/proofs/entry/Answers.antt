@@ -9,8 +9,7 @@ use Rattle.lent_chip.specs.Layout.{PALETTE, view}
 use Rattle.lent_chip.proofs.Stores.{get_colour}
 use borrow.Author.Rules.{rules}
 use native.Mathlib.Omega.{arith}
-use Rattle.lent_names.proofs.entry.Statement.{statement}
-use Rattle.lent_names.proofs.entry.Tie as tie
+use Rattle.lent_names.proofs.entry.Goals as goal
 
 entry_at : (l : List ℕ) (e : ℕ) → e < 256
     → entry (named (view l)) e ≡ rgb (get_or l (PALETTE + 3 * e) 0) (get_or l (PALETTE + 3 * e + 1) 0) (get_or l (PALETTE + 3 * e + 2) 0)
@@ -19,15 +18,5 @@ entry_at l e h =
     let y : PALETTE + 3 * e + 2 ≡ PALETTE + (3 * e + 2) = omega arith in
     rw (x, y) (get_colour l e h)
 
-pub entry_spec : {M : Type 1} → statement M
-entry_spec =
-    tie.close
-    (tie.spec
-    (λ c. search rules)
-    (λ c. search rules)
-    (λ c. search rules)
-    (λ c. search rules)
-    (λ c. search rules)
-    (λ c. search rules)
-    (λ c. search rules)
-    (λ c. sym (entry_at c.before.before.before.args.state.now c.before.before.before.args.e (omega arith))))
+pub returns : goal.returns
+returns c = sym (entry_at c.args.state.now c.args.e (omega arith))

@@ -6,18 +6,12 @@ use Rattle.script_commands.specs.Command.{bytes_of_all}
 use Rattle.script_commands.specs.Known.{expanded_known}
 use Rattle.script_commands.proofs.Codec.{length-bytes}
 use Rattle.script_commands.proofs.Knowing.{known_most}
-use borrow.Author.Rules.{rules}
 use native.Mathlib.Omega.{arith}
-use Rattle.script_short.proofs.short_count.Statement.{statement}
-use Rattle.script_short.proofs.short_count.Tie as tie
+use Rattle.script_short.proofs.short_count.Goals as goal
 
-pub short_count_spec : {M : Type 1} → statement M
-short_count_spec =
-    tie.close
-    (tie.spec
-    (λ c. search rules)
-    (λ c κs. search rules)
-    (λ c. let a = c.before.before.before.args in
-    let put : c.before.add_step.result ≡ 0 + length (bytes_of_all (expanded_known a.known a.s)) = c.before.add_step.ensures.next in
+pub returns : goal.returns
+returns c =
+    let a = c.args in
+    let put : c.add_step.result ≡ 0 + length (bytes_of_all (expanded_known a.known a.s)) = c.add_step.ensures.next in
     let bytes : length (bytes_of_all (expanded_known a.known a.s)) ≡ 4 * length (expanded_known a.known a.s) = length-bytes (expanded_known a.known a.s) in
-    (omega arith, omega (arith, known_most a.known a.s))))
+    (omega arith, omega (arith, known_most a.known a.s))

@@ -1,0 +1,17 @@
+use Prim.Native.Nat.{◌-◌, ◌≤◌}
+use mathlib.Core.Path.{◌≡◌}
+use mathlib.Core.List.{[]}
+use lib.ListN.{length}
+use Rattle.lists.specs.Put.{Added}
+use Rattle.script_commands.specs.Command.{bytes_of_all}
+use Rattle.script_commands.specs.Translation.{commands_to}
+use Rattle.script_short.specs.Short.{short_to}
+use Rattle.script_short.proofs.ShortLaws.{past}
+use Rattle.script_short.proofs.Remembering.{Remembers}
+use Rattle.script_short.proofs.put_short.Given as goal
+
+abbrev pub invariant-loop-j : goal.invariant-loop-j
+invariant-loop-j l = Added l.initial.out 0 (bytes_of_all (short_to l.file l.j)) l.out l.at × (length l.out ≡ length l.initial.out) × Remembers l.last (past [] (commands_to l.file l.j)) × (l.j ≤ l.m)
+
+abbrev pub decreases-loop-j : goal.decreases-loop-j
+decreases-loop-j l = l.m - l.j
