@@ -1,0 +1,31 @@
+-- `blit::lines::one_by_one` meets its contract: each turn is one more byte of the definition. Assumes nothing.
+use Prim.Native.Nat.{◌-◌, ◌≤◌}
+use mathlib.Core.Path.{◌≡◌, refl}
+use lib.ListN.{length, length-set}
+use native.Mathlib.Numerals.{add-one}
+use native.Mathlib.Omega.{arith}
+use borrow.Author.Rules.{rules}
+use Rattle.blit.specs.Transfer.{in_turn}
+use Rattle.blit.specs.Working.{line_byte}
+use Rattle.blit.proofs.lines.one_by_one.Goals as goal
+
+pub loop-c-init : goal.loop-c-init
+unfolding in_turn
+loop-c-init c = (search rules, refl, refl)
+
+pub loop-c-preserved : goal.loop-c-preserved
+unfolding in_turn line_byte
+loop-c-preserved c =
+    let l = c.loop-c in (
+      search rules,
+      simp length-set (search rules),
+      rw (
+        add-one,
+        ← l.invariant.2,
+        ← c.byte_at-i.ensures.0,
+        ← c.byte_at-j.ensures.0,
+        ← c.fetch-pb.ensures,
+        ← c.fetch-sb.ensures,
+        ← c.raster_byte.ensures,
+      ),
+    )

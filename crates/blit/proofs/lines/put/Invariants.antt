@@ -1,0 +1,14 @@
+use Prim.Native.Nat.{◌+◌, ◌-◌, ◌≤◌, ◌<◌}
+use mathlib.Core.Path.{◌≡◌, refl}
+use lib.ListN.{length, get_or}
+use native.Mathlib.Omega.{arith}
+use borrow.Author.Rules.{rules}
+use Rattle.blit.specs.Working.{Part}
+use Rattle.blit.proofs.Parts.{part_none, part_up}
+use Rattle.blit.proofs.lines.put.Given as goal
+
+abbrev pub invariant-loop-c : goal.invariant-loop-c
+invariant-loop-c l = (l.c ≤ l.w) × Part l.d (λ k. get_or l.buf k 0) 0 l.c l.initial.mem l.mem
+
+abbrev pub decreases-loop-c : goal.decreases-loop-c
+decreases-loop-c l = l.w - l.c

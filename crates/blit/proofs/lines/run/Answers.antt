@@ -1,0 +1,9 @@
+-- `blit::lines::run` meets its contract: either pair of buffers is long enough. Assumes nothing.
+use Rattle.std.proofs.Common.{length, arith, rules}
+use Rattle.blit.proofs.Rows.{in_ranges}
+use Rattle.blit.proofs.lines.run.Goals as goal
+
+pub all_lines-requires-2-clause-width_in_bounds : goal.all_lines-requires-2-clause-width_in_bounds
+all_lines-requires-2-clause-width_in_bounds c =
+    let narrow = (in_ranges (length c.args.mem.now) c.args.t c.requires).narrow in
+    (omega arith, search rules, omega arith)

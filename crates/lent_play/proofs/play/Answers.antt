@@ -1,0 +1,48 @@
+-- Another length, a refused file, and the run of what the translation left in the buffer.
+use mathlib.Core.Path.{sym, ap, ◌∙◌, refl}
+use lib.ListN.{length}
+use lib.Seq.{length-take-le}
+use borrow.Author.Tests.{ne_eqb}
+use native.Mathlib.Omega.{arith}
+use Rattle.script_commands.specs.Translation.{left_by}
+use Rattle.script_commands.specs.declared.Translated.{Translated}
+use Rattle.chip_play.proofs.Playing.{commands_fit, front_fits, front_commands}
+use Rattle.lent_play.proofs.Playing.{play_answered, undone, unplayed, run_played, not_length, buffered}
+use borrow.Author.Rules.{rules}
+use Rattle.lent_play.proofs.play.Goals as goal
+
+pub overflow_mul-end : goal.overflow_mul-end
+overflow_mul-end c = omega (arith, commands_fit c.args.file.now (length c.args.buffer.now) _ (sym c.translate.ensures.value ∙ c.in-Commands.is))
+
+pub slice_bounds-run-end : goal.slice_bounds-run-end
+slice_bounds-run-end c =
+    let a = c.args in
+    let left = c.translate.ensures.out_after ∙ ap (λ (t : Translated). left_by t a.file.now a.buffer.now) c.in-Commands.is in
+    front_fits a.file.now a.buffer.now _ (sym c.translate.ensures.value ∙ c.in-Commands.is) left
+
+pub slice_bounds-run-end-in-Commands : goal.slice_bounds-run-end-in-Commands
+slice_bounds-run-end-in-Commands c =
+    let a = c.args in
+    let left = c.translate.ensures.out_after ∙ ap (λ (t : Translated). left_by t a.file.now a.buffer.now) c.in-Commands.is in
+    sym (length-take-le _ _ (front_fits a.file.now a.buffer.now _ (sym c.translate.ensures.value ∙ c.in-Commands.is) left))
+
+pub returns-in-Refused : goal.returns-in-Refused
+returns-in-Refused c =
+    let a = c.args in
+    let size = c.if-state-ne-STATE.false in
+    let t = c.translate.ensures in
+    let d = unplayed a.state.now a.file.now (length a.buffer.now) size (sym t.value ∙ c.in-Refused.is) in
+    let p = play_answered d (buffered a.state.now a.file.now a.buffer.now size t.value t.out_after) in
+    record { value = p.0; left = p.1.0; by_name_in = p.1.1.0; buffer_after = p.1.1.1.0; result_value = p.1.1.1.1 }
+
+pub returns-in-Ran : goal.returns-in-Ran
+returns-in-Ran c =
+    let a = c.args in
+    let size = c.if-state-ne-STATE.false in
+    let t = c.translate.ensures in
+    let is = sym t.value ∙ c.in-Commands.is in
+    let left = t.out_after ∙ ap (λ (t : Translated). left_by t a.file.now a.buffer.now) c.in-Commands.is in
+    let front = front_commands a.file.now a.buffer.now _ is left in
+    let d = run_played a.state.now a.file.now (length a.buffer.now) size is front c.run.ensures.value c.run.ensures.left c.in-Ran.is in
+    let p = play_answered d (buffered a.state.now a.file.now a.buffer.now size t.value t.out_after) in
+    record { value = p.0; left = p.1.0; by_name_in = p.1.1.0; buffer_after = p.1.1.1.0; result_value = p.1.1.1.1 }
