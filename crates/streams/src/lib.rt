@@ -1,12 +1,13 @@
-// Standard input read whole and standard output written whole, with a failure told: for programs that read a file and print
-// an answer. What a program says then is one line on standard error, `NAME: cannot read standard input` or `NAME: cannot
-// write standard output`. No contract can say what is read or written; what is lent to be written stays as it is.
+// An input read whole and an output written whole, with a failure told: for programs that read a file and print an answer.
+// What a program says then is one line on standard error, `NAME: cannot read standard input` or `NAME: cannot write standard
+// output`. Any reader may be the input, and any writers the output and the place for what is said. What is lent to be written
+// stays as it is.
 #![tactic(auto)]
 
-ghost use Rattle.std.specs.Prelude.{◌≡◌, ◌+◌, ◌-◌, ◌≤◌, length};
-ghost use Rattle.streams.specs.Got.{Within};
+ghost use Rattle.std.specs.Prelude.{◌≡◌, ◌+◌, ◌-◌, ◌≤◌, length, take, drop};
+ghost use Rattle.streams.specs.Got.{Within, Comes, EndsAtNone, EndsUnlessFull};
 
-use libc::{STDERR_FILENO, STDIN_FILENO, STDOUT_FILENO};
+use std::io::{Read, Write};
 
 // How many bytes came, or that a read failed.
 #[derive(Clone, Copy)]
@@ -16,24 +17,28 @@ pub enum Got {
 }
 
 // One read into what stands behind the first bytes of a buffer.
-fn read_more(buf: &mut [u8], done: usize) -> Got
+fn read_more<R: Read>(input: &mut R, buf: &mut [u8], done: usize) -> Got
     requires { done ≤ length buf.old }
-    ensures { Within result (length buf.old - done) }
+    ensures room { Within result (length buf.old - done) }
+    ensures front { take done buf.new ≡ take done buf.old }
+    ensures came { Comes result (R.remaining input.old) (R.remaining input.new) (drop done buf.new) }
+    ensures end { EndsAtNone result (length buf.old - done) (R.remaining input.new) }
 {
-    let got = libc::read(STDIN_FILENO, &mut buf[done..]);
-    if got < 0 {
-        return Got::Failed;
+    match input.read(&mut buf[done..]) {
+        Ok(k) => Got::Bytes(k),
+        Err(_) => Got::Failed,
     }
-    Got::Bytes(io::count(got, &buf[done..]))
 }
 
-// Standard input into a buffer, until it is full or the input ends.
-pub fn read_input(buf: &mut [u8]) -> Got
-    ensures { Within result (length buf.old) }
+// An input into a buffer, until it is full or the input ends.
+pub fn read_input<R: Read>(input: &mut R, buf: &mut [u8]) -> Got
+    ensures room { Within result (length buf.old) }
+    ensures came { Comes result (R.remaining input.old) (R.remaining input.new) buf.new }
+    ensures end { EndsUnlessFull result (length buf.old) (R.remaining input.new) }
 {
     let mut done = 0;
     while done < buf.len() {
-        let Got::Bytes(k) = read_more(buf, done) else {
+        let Got::Bytes(k) = read_more(input, buf, done) else {
             return Got::Failed;
         };
         if k == 0 {
@@ -45,21 +50,21 @@ pub fn read_input(buf: &mut [u8]) -> Got
 }
 
 // What a program of this name says where its input cannot be read.
-pub fn say_unread(name: &[u8])
+pub fn say_unread<E: Write>(err: &mut E, name: &[u8])
     ensures { name.now ≡ name.now }
 {
-    io::write_all(STDERR_FILENO, name);
-    io::write_all(STDERR_FILENO, b": cannot read standard input\n");
+    let _ = err.write_all(name);
+    let _ = err.write_all(b": cannot read standard input\n");
 }
 
-// Bytes to standard output, by a program of this name.
-pub fn print(name: &[u8], bytes: &[u8])
+// Bytes to the output, by a program of this name.
+pub fn print<W: Write, E: Write>(out: &mut W, err: &mut E, name: &[u8], bytes: &[u8])
     ensures name_value { name.now ≡ name.now }
     ensures bytes_value { bytes.now ≡ bytes.now }
 {
-    if io::write_all(STDOUT_FILENO, bytes) {
+    if out.write_all(bytes).is_ok() {
         return;
     }
-    io::write_all(STDERR_FILENO, name);
-    io::write_all(STDERR_FILENO, b": cannot write standard output\n");
+    let _ = err.write_all(name);
+    let _ = err.write_all(b": cannot write standard output\n");
 }
