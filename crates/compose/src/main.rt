@@ -6,7 +6,7 @@
 
 ghost use Rattle.std.specs.Prelude.{◌≡◌, length};
 
-use libc::STDERR_FILENO;
+use std::io::{Read, Write};
 use streams::{Got, print, read_input, say_unread};
 use text_to_script::{Composed, complain, compose};
 
@@ -18,45 +18,63 @@ fn file_buffer() -> [u8; 6144]
 }
 
 // What is wrong with a text, in one write.
-fn print_complaint(c: Composed, file: &mut [u8]) {
+fn print_complaint<E: Write>(err: &mut E, c: Composed, file: &mut [u8]) {
     let n = complain(c, file, 0);
-    io::write_all(STDERR_FILENO, &file[..n]);
+    let _ = err.write_all(&file[..n]);
 }
 
 // The file in one write, or the complaint.
-fn print_file(text: &[u8], file: &mut [u8]) {
+fn print_file<W: Write, E: Write>(out: &mut W, err: &mut E, text: &[u8], file: &mut [u8]) {
     let c = compose(text, file);
     let Composed::Blocks(n) = c else {
-        print_complaint(c, file);
+        print_complaint(err, c, file);
         return;
     };
     let size = 512 * n;
-    print(b"compose", &file[..size]);
+    print(out, err, b"compose", &file[..size]);
 }
 
 // A text of so many bytes, at most 1,048,576.
-fn take_text(text: &[u8], file: &mut [u8]) {
+fn take_text<W: Write, E: Write>(out: &mut W, err: &mut E, text: &[u8], file: &mut [u8]) {
     if 1_048_576 < text.len() {
-        io::write_all(STDERR_FILENO, b"compose: text of over 1048576 bytes\n");
+        let _ = err.write_all(b"compose: text of over 1048576 bytes\n");
         return;
     }
-    print_file(text, file);
+    print_file(out, err, text, file);
 }
 
 // A text that could be read to its end: a part of one is not composed.
-fn answer(text: &mut [u8], file: &mut [u8]) {
-    match read_input(text) {
-        Got::Bytes(n) => take_text(&text[..n], file),
-        Got::Failed => say_unread(b"compose"),
+fn answer<R: Read, W: Write, E: Write>(
+    input: &mut R,
+    out: &mut W,
+    err: &mut E,
+    text: &mut [u8],
+    file: &mut [u8],
+) {
+    match read_input(input, text) {
+        Got::Bytes(n) => take_text(out, err, &text[..n], file),
+        Got::Failed => say_unread(err, b"compose"),
     }
 }
 
-fn with_text(text: &mut [u8; 1048577], file: &mut [u8]) {
-    answer(text, file)
+fn with_text<R: Read, W: Write, E: Write>(
+    input: &mut R,
+    out: &mut W,
+    err: &mut E,
+    text: &mut [u8; 1048577],
+    file: &mut [u8],
+) {
+    answer(input, out, err, text, file)
 }
 
-fn main() {
+fn main(rt: HostRuntime) {
     let mut text = [0u8; 1048577];
     let mut file = file_buffer();
-    with_text(&mut text, &mut file);
+    with_text(
+        &mut rt.stdin(),
+        &mut rt.stdout(),
+        &mut rt.stderr(),
+        &mut text,
+        &mut file,
+    );
 }

@@ -7,8 +7,8 @@
 
 ghost use Rattle.std.specs.Prelude.{◌≡◌, length};
 
-use libc::STDERR_FILENO;
 use script::Refusal;
+use std::io::{Read, Write};
 use streams::{Got, print, read_input, say_unread};
 use text_effects::{Told, tell};
 use text_refusals::complain;
@@ -28,30 +28,50 @@ fn text_buffer() -> [u8; 344832]
 }
 
 // What is wrong with a file, in one write.
-fn print_complaint(r: Refusal, text: &mut [u8]) {
+fn print_complaint<E: Write>(err: &mut E, r: Refusal, text: &mut [u8]) {
     let n = complain(text, 0, b"effects", r);
-    io::write_all(STDERR_FILENO, &text[..n]);
+    let _ = err.write_all(&text[..n]);
 }
 
 // The text, or the complaint.
-fn print_text(file: &[u8], work: &mut [u8], text: &mut [u8]) {
+fn print_text<W: Write, E: Write>(
+    out: &mut W,
+    err: &mut E,
+    file: &[u8],
+    work: &mut [u8],
+    text: &mut [u8],
+) {
     match tell(file, work, text) {
-        Told::Text(n) => print(b"effects", &text[..n]),
-        Told::Refused(r) => print_complaint(r, text),
+        Told::Text(n) => print(out, err, b"effects", &text[..n]),
+        Told::Refused(r) => print_complaint(err, r, text),
     }
 }
 
 // A file that could be read to its end.
-fn answer(file: &mut [u8], work: &mut [u8], text: &mut [u8]) {
-    match read_input(file) {
-        Got::Bytes(n) => print_text(&file[..n], work, text),
-        Got::Failed => say_unread(b"effects"),
+fn answer<R: Read, W: Write, E: Write>(
+    input: &mut R,
+    out: &mut W,
+    err: &mut E,
+    file: &mut [u8],
+    work: &mut [u8],
+    text: &mut [u8],
+) {
+    match read_input(input, file) {
+        Got::Bytes(n) => print_text(out, err, &file[..n], work, text),
+        Got::Failed => say_unread(err, b"effects"),
     }
 }
 
-fn main() {
+fn main(rt: HostRuntime) {
     let mut file = [0u8; 6145];
     let mut work = commands_buffer();
     let mut text = text_buffer();
-    answer(&mut file, &mut work, &mut text);
+    answer(
+        &mut rt.stdin(),
+        &mut rt.stdout(),
+        &mut rt.stderr(),
+        &mut file,
+        &mut work,
+        &mut text,
+    );
 }

@@ -6,8 +6,8 @@
 
 ghost use Rattle.std.specs.Prelude.{◌≡◌, length};
 
-use libc::STDERR_FILENO;
 use script::Refusal;
+use std::io::{Read, Write};
 use streams::{Got, print, read_input, say_unread};
 use text_listing::{Listed, list};
 use text_refusals::complain;
@@ -27,34 +27,54 @@ fn text_buffer() -> [u8; 96855]
 }
 
 // What is wrong with a file, in one write.
-fn print_complaint(r: Refusal, text: &mut [u8]) {
+fn print_complaint<E: Write>(err: &mut E, r: Refusal, text: &mut [u8]) {
     let n = complain(text, 0, b"listing", r);
-    io::write_all(STDERR_FILENO, &text[..n]);
+    let _ = err.write_all(&text[..n]);
 }
 
 // The text; of a file that is refused its line, and then the complaint. The buffer is room for any text.
-fn print_listing(file: &[u8], work: &mut [u8], text: &mut [u8]) {
+fn print_listing<W: Write, E: Write>(
+    out: &mut W,
+    err: &mut E,
+    file: &[u8],
+    work: &mut [u8],
+    text: &mut [u8],
+) {
     match list(file, work, text) {
-        Listed::Text(n) => print(b"listing", &text[..n]),
+        Listed::Text(n) => print(out, err, b"listing", &text[..n]),
         Listed::Refused(r, n) => {
-            print(b"listing", &text[..n]);
-            print_complaint(r, text);
+            print(out, err, b"listing", &text[..n]);
+            print_complaint(err, r, text);
         }
         Listed::Short => {}
     }
 }
 
 // A file that could be read to its end.
-fn answer(file: &mut [u8], work: &mut [u8], text: &mut [u8]) {
-    match read_input(file) {
-        Got::Bytes(n) => print_listing(&file[..n], work, text),
-        Got::Failed => say_unread(b"listing"),
+fn answer<R: Read, W: Write, E: Write>(
+    input: &mut R,
+    out: &mut W,
+    err: &mut E,
+    file: &mut [u8],
+    work: &mut [u8],
+    text: &mut [u8],
+) {
+    match read_input(input, file) {
+        Got::Bytes(n) => print_listing(out, err, &file[..n], work, text),
+        Got::Failed => say_unread(err, b"listing"),
     }
 }
 
-fn main() {
+fn main(rt: HostRuntime) {
     let mut file = [0u8; 6145];
     let mut work = commands_buffer();
     let mut text = text_buffer();
-    answer(&mut file, &mut work, &mut text);
+    answer(
+        &mut rt.stdin(),
+        &mut rt.stdout(),
+        &mut rt.stderr(),
+        &mut file,
+        &mut work,
+        &mut text,
+    );
 }

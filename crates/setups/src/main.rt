@@ -16,9 +16,9 @@ use cases::{
 use cases_requests::{written_number, written_value};
 use chip::Chip;
 use chip_registers::Group;
-use libc::STDOUT_FILENO;
 use memory::answer_number;
 use script_commands::translate;
+use std::io::Write;
 
 // A capital hexadecimal digit.
 fn digit(x: u8) -> u8 {
@@ -28,43 +28,34 @@ fn digit(x: u8) -> u8 {
 
 // Whether two cases have the same sixteen bytes.
 fn agree(got: [u8; 16], want: [u8; 16]) -> bool {
-    let mut i: usize = 0;
-    while i < 16 {
-        if got[i] != want[i] {
-            return false;
-        }
-        i += 1;
-    }
-    true
+    got == want
 }
 
 // The bytes that came out.
-fn print_bytes(got: [u8; 16]) {
-    let mut i: usize = 0;
-    while i < 16 {
-        io::write_all(STDOUT_FILENO, &[b' ', digit(got[i] / 16), digit(got[i])]);
-        i += 1;
+fn print_bytes<W: Write>(out: &mut W, got: [u8; 16]) {
+    for byte in got {
+        let _ = out.write_all(&[b' ', digit(byte / 16), digit(byte)]);
     }
 }
 
 // The line of a case.
-fn report(case: u64, got: [u8; 16], want: [u8; 16]) {
-    io::print_decimal(STDOUT_FILENO, case);
+fn report<W: Write>(out: &mut W, case: u64, got: [u8; 16], want: [u8; 16]) {
+    let _ = write!(out, "{case}");
     if agree(got, want) {
-        io::write_all(STDOUT_FILENO, b" ok");
+        let _ = out.write_all(b" ok");
     } else {
-        io::write_all(STDOUT_FILENO, b" got");
-        print_bytes(got);
+        let _ = out.write_all(b" got");
+        print_bytes(out, got);
     }
-    io::write_all(STDOUT_FILENO, b"\n");
+    let _ = out.write_all(b"\n");
 }
 
 // The line of a case of a request.
-fn report_request(request: u64, case: u64, got: [u8; 16], want: [u8; 16]) {
-    io::write_all(STDOUT_FILENO, b"P");
-    io::print_decimal(STDOUT_FILENO, request);
-    io::write_all(STDOUT_FILENO, b".");
-    report(case, got, want);
+fn report_request<W: Write>(out: &mut W, request: u64, case: u64, got: [u8; 16], want: [u8; 16]) {
+    let _ = out.write_all(b"P");
+    let _ = write!(out, "{request}");
+    let _ = out.write_all(b".");
+    report(out, case, got, want);
 }
 
 // 1. XR60, XR67, MR1F written FFh.
@@ -202,11 +193,7 @@ fn case_11() -> [u8; 16] {
 // The first sixteen bytes of thirty-two.
 fn front(bytes: [u8; 32]) -> [u8; 16] {
     let mut out = [0u8; 16];
-    let mut i: usize = 0;
-    while i < 16 {
-        out[i] = bytes[i];
-        i += 1;
-    }
+    out.copy_from_slice(&bytes[..16]);
     out
 }
 
@@ -503,63 +490,75 @@ fn case_p6_8() -> [u8; 16] {
 }
 
 // Document 01's set-ups.
-fn set_ups() {
+fn set_ups<W: Write>(out: &mut W) {
     report(
+        out,
         1,
         case_1(),
         [0x43, 0x02, 0xEB, 0, 0, 0, 0, 0, 0, 0, 0, 0, 0, 0, 0, 0],
     );
     report(
+        out,
         2,
         case_2(),
         [0x03, 0, 0, 0, 0, 0, 0, 0, 0, 0, 0, 0, 0, 0, 0, 0],
     );
     report(
+        out,
         3,
         case_3(),
         [2, 0xFF, 0, 0, 0, 0, 0, 0, 0, 0, 0, 0, 0, 0, 0, 0],
     );
     report(
+        out,
         4,
         case_4(),
         [0x10, 0, 0, 0, 0, 0, 0, 0, 0, 0, 0, 0, 0, 0, 0, 0],
     );
     report(
+        out,
         5,
         case_5(),
         [0xFF, 0x0A, 0, 0, 0, 0, 0, 0, 0, 0, 0, 0, 0, 0, 0, 0],
     );
     report(
+        out,
         6,
         case_6(),
         [0x43, 0x00, 0, 0, 0, 0, 0, 0, 0, 0, 0, 0, 0, 0, 0, 0],
     );
     report(
+        out,
         7,
         case_7(),
         [63, 0, 21, 252, 0, 84, 63, 2, 3, 0, 0, 0, 0, 0, 0, 0],
     );
     report(
+        out,
         8,
         case_8(),
         [0xB8, 0, 0, 0, 0, 0, 0, 0, 0, 0, 0, 0, 0, 0, 0, 0],
     );
     report(
+        out,
         9,
         one_line(0xCC, false, 4, 0, 1),
         [0, 1, 1, 1, 1, 1, 0, 0, 0, 0, 0, 0, 0, 0, 0, 0],
     );
     report(
+        out,
         10,
         one_line(0xCC, true, 4, 3, 4),
         [0, 1, 1, 2, 3, 4, 0, 0, 0, 0, 0, 0, 0, 0, 0, 0],
     );
     report(
+        out,
         11,
         case_11(),
         [0, 4, 0, 0, 0, 0, 0, 0, 0, 0, 0, 0, 0, 0, 0, 0],
     );
     report(
+        out,
         12,
         case_12(),
         [
@@ -568,6 +567,7 @@ fn set_ups() {
         ],
     );
     report(
+        out,
         13,
         case_13(),
         [0xB8, 0x9F, 0, 0, 0, 0, 0, 0, 0, 0, 0, 0, 0, 0, 0, 0],
@@ -575,14 +575,16 @@ fn set_ups() {
 }
 
 // The cases of document 02's P1.
-fn request_1() {
+fn request_1<W: Write>(out: &mut W) {
     report_request(
+        out,
         1,
         1,
         case_p1_1(),
         [0x5A, 0x3F, 0x3F, 0x12, 0, 0, 0, 0, 0, 0, 0, 0, 0, 0, 0, 0],
     );
     report_request(
+        out,
         1,
         2,
         case_p1_2(),
@@ -591,18 +593,21 @@ fn request_1() {
         ],
     );
     report_request(
+        out,
         1,
         3,
         case_p1_3(),
         [0x15, 0x20, 0x41, 0x3F, 0, 0, 0, 0, 0, 0, 0, 0, 0, 0, 0, 0],
     );
     report_request(
+        out,
         1,
         4,
         case_p1_4(),
         [0x25, 0x00, 1, 1, 1, 0, 0, 0, 0, 0, 0, 0, 0, 0, 0, 0],
     );
     report_request(
+        out,
         1,
         5,
         case_p1_5(),
@@ -614,26 +619,30 @@ fn request_1() {
 }
 
 // The cases of document 02's P2.
-fn request_2() {
+fn request_2<W: Write>(out: &mut W) {
     report_request(
+        out,
         2,
         1,
         case_p2_1(),
         [11, 1, 11, 0, 0, 0, 0, 0, 0, 0, 0, 0, 0, 0, 0, 0],
     );
     report_request(
+        out,
         2,
         2,
         case_p2_2(),
         [7, 0, 7, 0, 11, 0, 0, 0, 0, 0, 0, 0, 0, 0, 0, 0],
     );
     report_request(
+        out,
         2,
         3,
         case_p2_3(),
         [0, 1, 0, 0, 0, 0, 0, 0, 0, 0, 0, 0, 0, 0, 0, 0],
     );
     report_request(
+        out,
         2,
         4,
         case_p2_4(),
@@ -642,14 +651,16 @@ fn request_2() {
 }
 
 // The cases of document 02's P5.
-fn request_5() {
+fn request_5<W: Write>(out: &mut W) {
     report_request(
+        out,
         5,
         1,
         case_p5_1(),
         [0x02, 0x0F, 0x08, 0xA5, 0, 0, 0, 0, 0, 0, 0, 0, 0, 0, 0, 0],
     );
     report_request(
+        out,
         5,
         2,
         case_p5_2(),
@@ -658,6 +669,7 @@ fn request_5() {
         ],
     );
     report_request(
+        out,
         5,
         3,
         case_p5_3(),
@@ -666,8 +678,9 @@ fn request_5() {
 }
 
 // The cases of document 02's P6.
-fn request_6() {
+fn request_6<W: Write>(out: &mut W) {
     report_request(
+        out,
         6,
         1,
         case_p6_1(),
@@ -676,6 +689,7 @@ fn request_6() {
         ],
     );
     report_request(
+        out,
         6,
         2,
         case_p6_2(),
@@ -684,6 +698,7 @@ fn request_6() {
         ],
     );
     report_request(
+        out,
         6,
         3,
         case_p6_3(),
@@ -692,6 +707,7 @@ fn request_6() {
         ],
     );
     report_request(
+        out,
         6,
         4,
         case_p6_4(),
@@ -700,6 +716,7 @@ fn request_6() {
         ],
     );
     report_request(
+        out,
         6,
         5,
         case_p6_5(),
@@ -708,6 +725,7 @@ fn request_6() {
         ],
     );
     report_request(
+        out,
         6,
         6,
         case_p6_6(),
@@ -716,6 +734,7 @@ fn request_6() {
         ],
     );
     report_request(
+        out,
         6,
         7,
         case_p6_7(),
@@ -724,6 +743,7 @@ fn request_6() {
         ],
     );
     report_request(
+        out,
         6,
         8,
         case_p6_8(),
@@ -733,10 +753,11 @@ fn request_6() {
     );
 }
 
-fn main() {
-    set_ups();
-    request_1();
-    request_2();
-    request_5();
-    request_6();
+fn main(rt: HostRuntime) {
+    let out = &mut rt.stdout();
+    set_ups(out);
+    request_1(out);
+    request_2(out);
+    request_5(out);
+    request_6(out);
 }

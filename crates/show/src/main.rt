@@ -6,8 +6,8 @@
 
 ghost use Rattle.std.specs.Prelude.{◌≡◌, length};
 
-use libc::STDERR_FILENO;
 use script::Refusal;
+use std::io::{Read, Write};
 use streams::{Got, print, read_input, say_unread};
 use text_from_script::{Shown, show};
 use text_refusals::complain;
@@ -20,29 +20,41 @@ fn text_buffer() -> [u8; 20160]
 }
 
 // What is wrong with a file, in one write.
-fn print_complaint(r: Refusal, text: &mut [u8]) {
+fn print_complaint<E: Write>(err: &mut E, r: Refusal, text: &mut [u8]) {
     let n = complain(text, 0, b"show", r);
-    io::write_all(STDERR_FILENO, &text[..n]);
+    let _ = err.write_all(&text[..n]);
 }
 
 // The text, or the complaint.
-fn print_text(file: &[u8], text: &mut [u8]) {
+fn print_text<W: Write, E: Write>(out: &mut W, err: &mut E, file: &[u8], text: &mut [u8]) {
     match show(file, text) {
-        Shown::Text(n) => print(b"show", &text[..n]),
-        Shown::Refused(r) => print_complaint(r, text),
+        Shown::Text(n) => print(out, err, b"show", &text[..n]),
+        Shown::Refused(r) => print_complaint(err, r, text),
     }
 }
 
 // A file that could be read to its end.
-fn answer(file: &mut [u8], text: &mut [u8]) {
-    match read_input(file) {
-        Got::Bytes(n) => print_text(&file[..n], text),
-        Got::Failed => say_unread(b"show"),
+fn answer<R: Read, W: Write, E: Write>(
+    input: &mut R,
+    out: &mut W,
+    err: &mut E,
+    file: &mut [u8],
+    text: &mut [u8],
+) {
+    match read_input(input, file) {
+        Got::Bytes(n) => print_text(out, err, &file[..n], text),
+        Got::Failed => say_unread(err, b"show"),
     }
 }
 
-fn main() {
+fn main(rt: HostRuntime) {
     let mut file = [0u8; 6145];
     let mut text = text_buffer();
-    answer(&mut file, &mut text);
+    answer(
+        &mut rt.stdin(),
+        &mut rt.stdout(),
+        &mut rt.stderr(),
+        &mut file,
+        &mut text,
+    );
 }

@@ -8,7 +8,7 @@
 ghost use Rattle.std.specs.Prelude.{◌<◌, ◌≤◌, length};
 
 use chip::Chip;
-use libc::STDIN_FILENO;
+use std::io::{Read, Write};
 use streams::{print, say_unread};
 use workbench_input::lines::{Fed, Input, feed};
 use workbench_input::{Bench, shorter_of};
@@ -21,12 +21,14 @@ struct After {
 }
 
 // Replies to standard output.
-fn say(text: &[u8]) {
-    print(b"workbench", text);
+fn say<W: Write, E: Write>(writer: &mut W, err: &mut E, text: &[u8]) {
+    print(writer, err, b"workbench", text);
 }
 
 // Bytes of input from a place on, as many as there is room for replies; the replies are printed.
-fn part(
+fn part<W: Write, E: Write>(
+    writer: &mut W,
+    err: &mut E,
     input: Input,
     store: &mut [u8],
     line: &mut [u8],
@@ -45,18 +47,26 @@ fn part(
     };
     let f = feed(begun, store, line, out, bytes, from);
     let n = shorter_of(f.input.next, out.len());
-    say(&out[..n]);
+    say(writer, err, &out[..n]);
     f
 }
 
 // All bytes of a piece of input.
-fn piece(begun: Input, store: &mut [u8], line: &mut [u8], out: &mut [u8], bytes: &[u8]) -> Input
+fn piece<W: Write, E: Write>(
+    writer: &mut W,
+    err: &mut E,
+    begun: Input,
+    store: &mut [u8],
+    line: &mut [u8],
+    out: &mut [u8],
+    bytes: &[u8],
+) -> Input
     requires { 8192 ≤ length out.old }
 {
     let mut input = begun;
     let mut from = 0;
     while from < bytes.len() {
-        let f = part(input, store, line, out, bytes, from);
+        let f = part(writer, err, input, store, line, out, bytes, from);
         let next = f.input;
         input = next;
         from = f.from;
@@ -65,18 +75,26 @@ fn piece(begun: Input, store: &mut [u8], line: &mut [u8], out: &mut [u8], bytes:
 }
 
 // One read, and what came of it.
-fn turn(input: Input, store: &mut [u8], line: &mut [u8], out: &mut [u8], buf: &mut [u8]) -> After
+fn turn<R: Read, W: Write, E: Write>(
+    reader: &mut R,
+    writer: &mut W,
+    err: &mut E,
+    input: Input,
+    store: &mut [u8],
+    line: &mut [u8],
+    out: &mut [u8],
+    buf: &mut [u8],
+) -> After
     requires { 8192 ≤ length out.old }
 {
-    let got = libc::read(STDIN_FILENO, buf);
-    if got < 0 {
-        say_unread(b"workbench");
-    }
-    let n = io::count(got, buf);
+    let Ok(n) = reader.read(buf) else {
+        say_unread(err, b"workbench");
+        return After { more: false, input };
+    };
     if n == 0 {
         return After { more: false, input };
     }
-    let after = piece(input, store, line, out, &buf[..n]);
+    let after = piece(writer, err, input, store, line, out, &buf[..n]);
     After {
         more: !after.bench.ended,
         input: after,
@@ -84,35 +102,57 @@ fn turn(input: Input, store: &mut [u8], line: &mut [u8], out: &mut [u8], buf: &m
 }
 
 // All of the input; turns run out after 2^64 reads.
-fn pieces(begun: Input, store: &mut [u8], line: &mut [u8], out: &mut [u8], buf: &mut [u8]) -> Input
+fn pieces<R: Read, W: Write, E: Write>(
+    reader: &mut R,
+    writer: &mut W,
+    err: &mut E,
+    begun: Input,
+    store: &mut [u8],
+    line: &mut [u8],
+    out: &mut [u8],
+    buf: &mut [u8],
+) -> Input
     requires { 8192 ≤ length out.old }
 {
     let mut input = begun;
-    let mut turns = u64::MAX;
-    while turns > 0 {
-        let t = turn(input, store, line, out, buf);
+    for _ in 0..u64::MAX {
+        let t = turn(reader, writer, err, input, store, line, out, buf);
         let next = t.input;
         input = next;
         if !t.more {
             return input;
         }
-        turns -= 1;
     }
     input
 }
 
 // A last line that has no line feed is answered as if it had one.
-fn end(input: Input, store: &mut [u8], line: &mut [u8], out: &mut [u8])
+fn end<W: Write, E: Write>(
+    writer: &mut W,
+    err: &mut E,
+    input: Input,
+    store: &mut [u8],
+    line: &mut [u8],
+    out: &mut [u8],
+)
     requires { 8192 ≤ length out.old }
 {
     if input.size == 0 {
         return;
     }
-    piece(input, store, line, out, b"\n");
+    piece(writer, err, input, store, line, out, b"\n");
 }
 
 // All of the input, and its last line, with all of the store lent.
-fn work(store: &mut [u8], line: &mut [u8], out: &mut [u8], buf: &mut [u8]) {
+fn work<R: Read, W: Write, E: Write>(
+    reader: &mut R,
+    writer: &mut W,
+    err: &mut E,
+    store: &mut [u8],
+    line: &mut [u8],
+    out: &mut [u8],
+    buf: &mut [u8],
+) {
     if out.len() < 8192 {
         return;
     }
@@ -127,18 +167,34 @@ fn work(store: &mut [u8], line: &mut [u8], out: &mut [u8], buf: &mut [u8]) {
         size: 0,
         next: 0,
     };
-    let last = pieces(begun, store, line, out, buf);
-    end(last, store, line, out);
+    let last = pieces(reader, writer, err, begun, store, line, out, buf);
+    end(writer, err, last, store, line, out);
 }
 
-fn lend(store: &mut [u8; 2097152], line: &mut [u8], out: &mut [u8], buf: &mut [u8]) {
-    work(store, line, out, buf);
+fn lend<R: Read, W: Write, E: Write>(
+    reader: &mut R,
+    writer: &mut W,
+    err: &mut E,
+    store: &mut [u8; 2097152],
+    line: &mut [u8],
+    out: &mut [u8],
+    buf: &mut [u8],
+) {
+    work(reader, writer, err, store, line, out, buf);
 }
 
-fn main() {
+fn main(rt: HostRuntime) {
     let mut store = [0u8; 2097152];
     let mut line = [0u8; 256];
-    let mut out = io::large_buffer();
-    let mut buf = io::large_buffer();
-    lend(&mut store, &mut line, &mut out, &mut buf);
+    let mut out = [0u8; 65536];
+    let mut buf = [0u8; 65536];
+    lend(
+        &mut rt.stdin(),
+        &mut rt.stdout(),
+        &mut rt.stderr(),
+        &mut store,
+        &mut line,
+        &mut out,
+        &mut buf,
+    );
 }
