@@ -1,7 +1,7 @@
 #!/bin/sh
 # ./install.sh PREFIX: installs the library for C and C++ below PREFIX: include/chips69000.h, lib/libchips69000.a and
-# lib/pkgconfig/chips69000.pc. PREFIX is made where it is not there. The archive is the one that `rt staticlib chips69000` has
-# proved and built; where it is missing nothing is installed. Status 0 where all three files are there, else 1.
+# lib/pkgconfig/chips69000.pc. PREFIX is made where it is not there. The archive is the one that `rt lib` in crates/chips69000
+# has proved and built; where it is missing nothing is installed. Status 0 where all three files are there, else 1.
 set -u
 if [ $# -ne 1 ] || [ -z "$1" ]; then
     echo 'usage: ./install.sh PREFIX' >&2
@@ -9,9 +9,9 @@ if [ $# -ne 1 ] || [ -z "$1" ]; then
 fi
 root=$(CDPATH='' cd -- "$(dirname -- "$0")" && pwd -P) || exit 1
 header=$root/include/chips69000.h
-archive=$root/target/staticlib/libchips69000.a
+archive=$root/crates/chips69000/out/libchips69000.a
 if [ ! -f "$archive" ]; then
-    echo "$0: $archive is not there: run rt staticlib chips69000" >&2
+    echo "$0: $archive is not there: run rt lib in $root/crates/chips69000" >&2
     exit 1
 fi
 mkdir -p -- "$1" || exit 1
