@@ -1,0 +1,21 @@
+-- The loop's invariant: what is still to come from here is the whole of it.
+use Prim.Native.Nat.{ℕ, ◌-◌}
+use mathlib.Core.List.{List}
+use mathlib.Core.Path.{◌≡◌}
+use lib.ListN.{length, drop}
+use Rattle.workbench_input.specs.Acts.{Bench}
+use Rattle.workbench_input.specs.Lines.{LentInput, fed}
+use Rattle.workbench_input.specs.View.{view_bench}
+use Rattle.workbench_input.proofs.lines.feed.Given as goal
+
+-- the input that the loop's variables are
+abbrev pub here : Bench → List ℕ → List ℕ → ℕ → List ℕ → ℕ → LentInput
+here b store line size out next = record { bench = b; store = store; line = line; size = size; out = out; next = next }
+
+abbrev pub invariant-loop-i : goal.invariant-loop-i
+invariant-loop-i l =
+    (fed (here (view_bench l.bench) l.store l.line l.size l.out l.next) l.i (drop l.i l.bytes) ≡ fed (here (view_bench l.initial.bench) l.initial.store l.initial.line l.initial.size l.initial.out l.initial.next) l.from (drop l.from l.bytes))
+    × (length l.store ≡ length l.initial.store) × (length l.line ≡ length l.initial.line) × (length l.out ≡ length l.initial.out)
+
+abbrev pub decreases-loop-i : goal.decreases-loop-i
+decreases-loop-i l = length l.bytes - l.i
