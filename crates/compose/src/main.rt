@@ -53,7 +53,9 @@ fn answer<R: Read, W: Write, E: Write>(
 ) {
     match read_input(input, text) {
         Got::Bytes(n) => take_text(out, err, &text[..n], file),
-        Got::Failed => say_unread(err, b"compose"),
+        Got::Failed => {
+            say_unread(err, b"compose");
+        }
     }
 }
 

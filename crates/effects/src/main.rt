@@ -42,7 +42,9 @@ fn print_text<W: Write, E: Write>(
     text: &mut [u8],
 ) {
     match tell(file, work, text) {
-        Told::Text(n) => print(out, err, b"effects", &text[..n]),
+        Told::Text(n) => {
+            print(out, err, b"effects", &text[..n]);
+        }
         Told::Refused(r) => print_complaint(err, r, text),
     }
 }
@@ -58,7 +60,9 @@ fn answer<R: Read, W: Write, E: Write>(
 ) {
     match read_input(input, file) {
         Got::Bytes(n) => print_text(out, err, &file[..n], work, text),
-        Got::Failed => say_unread(err, b"effects"),
+        Got::Failed => {
+            say_unread(err, b"effects");
+        }
     }
 }
 

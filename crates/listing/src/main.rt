@@ -41,7 +41,9 @@ fn print_listing<W: Write, E: Write>(
     text: &mut [u8],
 ) {
     match list(file, work, text) {
-        Listed::Text(n) => print(out, err, b"listing", &text[..n]),
+        Listed::Text(n) => {
+            print(out, err, b"listing", &text[..n]);
+        }
         Listed::Refused(r, n) => {
             print(out, err, b"listing", &text[..n]);
             print_complaint(err, r, text);
@@ -61,7 +63,9 @@ fn answer<R: Read, W: Write, E: Write>(
 ) {
     match read_input(input, file) {
         Got::Bytes(n) => print_listing(out, err, &file[..n], work, text),
-        Got::Failed => say_unread(err, b"listing"),
+        Got::Failed => {
+            say_unread(err, b"listing");
+        }
     }
 }
 

@@ -41,7 +41,9 @@ fn print_text<W: Write, E: Write>(
     text: &mut [u8],
 ) {
     match list_short(file, work, text) {
-        Listed::Text(n) => print(out, err, b"short", &text[..n]),
+        Listed::Text(n) => {
+            print(out, err, b"short", &text[..n]);
+        }
         Listed::Refused(r, n) => {
             print(out, err, b"short", &text[..n]);
             print_complaint(err, r, text);
@@ -61,7 +63,9 @@ fn answer<R: Read, W: Write, E: Write>(
 ) {
     match read_input(input, file) {
         Got::Bytes(n) => print_text(out, err, &file[..n], work, text),
-        Got::Failed => say_unread(err, b"short"),
+        Got::Failed => {
+            say_unread(err, b"short");
+        }
     }
 }
 

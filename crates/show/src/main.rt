@@ -28,7 +28,9 @@ fn print_complaint<E: Write>(err: &mut E, r: Refusal, text: &mut [u8]) {
 // The text, or the complaint.
 fn print_text<W: Write, E: Write>(out: &mut W, err: &mut E, file: &[u8], text: &mut [u8]) {
     match show(file, text) {
-        Shown::Text(n) => print(out, err, b"show", &text[..n]),
+        Shown::Text(n) => {
+            print(out, err, b"show", &text[..n]);
+        }
         Shown::Refused(r) => print_complaint(err, r, text),
     }
 }
@@ -43,7 +45,9 @@ fn answer<R: Read, W: Write, E: Write>(
 ) {
     match read_input(input, file) {
         Got::Bytes(n) => print_text(out, err, &file[..n], text),
-        Got::Failed => say_unread(err, b"show"),
+        Got::Failed => {
+            say_unread(err, b"show");
+        }
     }
 }
 

@@ -4,7 +4,9 @@
 // stays as it is.
 #![tactic(auto)]
 
-ghost use Rattle.std.specs.Prelude.{◌≡◌, ◌+◌, ◌-◌, ◌≤◌, length, take, drop};
+ghost use Rattle.std.specs.Prelude.{◌≡◌, ◌+◌, ◌-◌, ◌≤◌, ◌++◌, true, length, take, drop};
+ghost use Rattle.std.specs.Io.KnownBytes.{Appends};
+ghost use Rattle.streams.specs.Said.{unread};
 ghost use Rattle.streams.specs.Got.{Within, Comes, EndsAtNone, EndsUnlessFull};
 
 use std::io::{Read, Write};
@@ -49,22 +51,32 @@ pub fn read_input<R: Read>(input: &mut R, buf: &mut [u8]) -> Got
     Got::Bytes(done)
 }
 
-// What a program of this name says where its input cannot be read.
-pub fn say_unread<E: Write>(err: &mut E, name: &[u8])
-    ensures { name.now ≡ name.now }
+// The name of a program and some words to standard error; whether all was written.
+fn say<E: Write>(err: &mut E, name: &[u8], words: &[u8]) -> bool
+    ensures { result ≡ true → Appends (E.contents err.old) (E.contents err.new) (name.now ++ words.now) }
 {
-    let _ = err.write_all(name);
-    let _ = err.write_all(b": cannot read standard input\n");
+    let has_named = err.write_all(name).is_ok();
+    err.write_all(words).is_ok() && has_named
 }
 
-// Bytes to the output, by a program of this name.
-pub fn print<W: Write, E: Write>(out: &mut W, err: &mut E, name: &[u8], bytes: &[u8])
+// What a program of this name says where its input cannot be read; whether it was said.
+pub fn say_unread<E: Write>(err: &mut E, name: &[u8]) -> bool
+    ensures name_value { name.now ≡ name.now }
+    ensures said { result ≡ true → Appends (E.contents err.old) (E.contents err.new) (unread name.now) }
+{
+    say(err, name, b": cannot read standard input\n")
+}
+
+// Bytes to the output, by a program of this name; whether they were written. Where they were not, that is said.
+pub fn print<W: Write, E: Write>(out: &mut W, err: &mut E, name: &[u8], bytes: &[u8]) -> bool
     ensures name_value { name.now ≡ name.now }
     ensures bytes_value { bytes.now ≡ bytes.now }
+    ensures written { result ≡ true → Appends (W.contents out.old) (W.contents out.new) bytes.now }
+    ensures silent { result ≡ true → err.new ≡ err.old }
 {
     if out.write_all(bytes).is_ok() {
-        return;
+        return true;
     }
-    let _ = err.write_all(name);
-    let _ = err.write_all(b": cannot write standard output\n");
+    say(err, name, b": cannot write standard output\n");
+    false
 }
