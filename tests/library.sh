@@ -1,11 +1,9 @@
-# Read, at the repository's root, by scripts that link the library: it is proved and built when it is not there, or a file or
-# folder of the crates is newer. What cannot be proved is not linked: the end of the log goes to standard error, status 1.
+# Read, at the repository's root, by scripts that link the library: `rt lib` proves and builds it where something has changed, and
+# else leaves it. What cannot be proved is not linked: the end of the log goes to standard error, status 1.
 library=crates/chips69000/out/libchips69000.a
-if [ ! -f "$library" ] || [ -n "$(find crates crates.txt -name out -prune -o -newer "$library" -print | head -n 1)" ]; then
-    mkdir -p target
-    if ! (cd crates/chips69000 && exec rt lib) </dev/null >target/library.log 2>&1; then
-        echo "$0: the library is not proved; the end of the log:" >&2
-        tail -n 20 target/library.log >&2
-        exit 1
-    fi
+mkdir -p target
+if ! (cd crates/chips69000 && exec rt lib) </dev/null >target/library.log 2>&1; then
+    echo "$0: the library is not proved; the end of the log:" >&2
+    tail -n 20 target/library.log >&2
+    exit 1
 fi
