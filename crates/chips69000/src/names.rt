@@ -2,7 +2,7 @@
 // no loading state moves. Document 01, "Registers" and "Palette"; document 02, P1, for group 8. A register comes as 256
 // times the number plus the byte, a colour as the number above red, green and blue (crate `lent_names`, specs/Numbers).
 ghost use Rattle.std.specs.Prelude.{◌≡◌, ◌+◌, ◌*◌};
-ghost use Rattle.lent_names.specs.Answers.{registerAnswer, entryAnswer, pixelAnswer};
+ghost use Rattle.lent_names.specs.Answers.{register_answer, entry_answer, pixel_answer};
 ghost use Rattle.lent_names.specs.Numbers.{register_word, colour_word};
 
 use lent_names::{Colour, Register, colour_of, entry_of, register_of};
@@ -45,7 +45,7 @@ fn register_word(a: Register) -> u16
 // A register, by the number of its group and its index.
 #[unsafe(no_mangle)]
 pub extern "C" fn chips69000_register(state: &[u8], group: u8, index: u8) -> u16
-    ensures { result ≡ register_word (registerAnswer state.now group index) }
+    ensures { result ≡ register_word (register_answer state.now group index) }
 {
     register_word(register_of(state, group, index))
 }
@@ -53,7 +53,7 @@ pub extern "C" fn chips69000_register(state: &[u8], group: u8, index: u8) -> u16
 // The colour that an entry of the palette stores.
 #[unsafe(no_mangle)]
 pub extern "C" fn chips69000_entry(state: &[u8], entry: u8) -> u32
-    ensures { result ≡ colour_word (entryAnswer state.now entry) }
+    ensures { result ≡ colour_word (entry_answer state.now entry) }
 {
     colour_word(entry_of(state, entry))
 }
@@ -61,7 +61,7 @@ pub extern "C" fn chips69000_entry(state: &[u8], entry: u8) -> u32
 // The colour of a pixel.
 #[unsafe(no_mangle)]
 pub extern "C" fn chips69000_pixel(state: &[u8], pixel: u8) -> u32
-    ensures { result ≡ colour_word (pixelAnswer state.now pixel) }
+    ensures { result ≡ colour_word (pixel_answer state.now pixel) }
 {
     colour_word(colour_of(state, pixel))
 }

@@ -19,7 +19,7 @@ use Rattle.chip.specs.Palette.{entry, shown}
 use Rattle.chip.specs.declared.Rgb.{Rgb}
 use Rattle.chip.proofs.ViewLaws.{unlisted_shows_00}
 use Rattle.lent_chip.specs.Layout.{whole, laid, view, Holds}
-use Rattle.lent_names.specs.Answers.{registerAnswer, entryAnswer, pixelAnswer}
+use Rattle.lent_names.specs.Answers.{register_answer, entry_answer, pixel_answer}
 use Rattle.lent_names.specs.Numbers.{of_register, register_word, colour_word}
 use Rattle.lent_names.specs.declared.Register.{Register}
 use Rattle.lent_names.specs.declared.Register.TheVariants.{Byte, NoGroup, Length as RegisterLength}
@@ -27,26 +27,26 @@ use Rattle.lent_names.specs.declared.Colour.TheVariants.{Given}
 
 module _ {l : List ℕ} {c : Chip} {bits : ℕ} (h : Holds l c bits) where
   -- a register by its group's number
-  pub register-held : (g : Group) (i : ℕ) → registerAnswer l (number_of g) i ≡ Byte (register g (named c) i)
+  pub register-held : (g : Group) (i : ℕ) → register_answer l (number_of g) i ≡ Byte (register g (named c) i)
   register-held g i = rw (eq-eqb _ _ h.size, lt-ltb _ _ (number_few g), group_numbered g, h.chip)
 
-  pub entry-held : (e : ℕ) → entryAnswer l e ≡ Given (entry (named c) e)
+  pub entry-held : (e : ℕ) → entry_answer l e ≡ Given (entry (named c) e)
   entry-held e = rw (eq-eqb _ _ h.size, h.chip)
 
-  pub pixel_held : (p : ℕ) → pixelAnswer l p ≡ Given (shown (named c) p)
+  pub pixel_held : (p : ℕ) → pixel_answer l p ≡ Given (shown (named c) p)
   pixel_held p = rw (eq-eqb _ _ h.size, h.chip)
 
   -- an unlisted index reads 00h, in every state
-  pub unlisted_held : (g : Group) (i : ℕ) → i < 0x100 → row_of g i ≡ Unlisted → registerAnswer l (number_of g) i ≡ Byte 0x00
+  pub unlisted_held : (g : Group) (i : ℕ) → i < 0x100 → row_of g i ≡ Unlisted → register_answer l (number_of g) i ≡ Byte 0x00
   unfolding view
   unlisted_held g i hi none = register-held g i ∙ ap Byte (rw (← h.chip) (unlisted_shows_00 g (laid l) i hi none))
 
 -- MSR, group 6, and PALMASK, group 7, whatever the index
-pub msr_whatever_index : (l : List ℕ) (i j : ℕ) → registerAnswer l 6 i ≡ registerAnswer l 6 j
+pub msr_whatever_index : (l : List ℕ) (i j : ℕ) → register_answer l 6 i ≡ register_answer l 6 j
 unfolding group_at
 msr_whatever_index l i j = refl
 
-pub palmask_whatever_index : (l : List ℕ) (i j : ℕ) → registerAnswer l 7 i ≡ registerAnswer l 7 j
+pub palmask_whatever_index : (l : List ℕ) (i j : ℕ) → register_answer l 7 i ≡ register_answer l 7 j
 unfolding group_at
 palmask_whatever_index l i j = refl
 
@@ -56,7 +56,7 @@ pub record Exact (l : List ℕ) (g : ℕ) (number : ℕ) : Type 0 where
   pub no_group_lem : number ≡ 254 ↔ (length l ≡ whole) × (8 < g)
   pub done : number ≡ 0 ↔ (length l ≡ whole) × (g ≤ 8)
 
-pub register_exact : (l : List ℕ) (g i : ℕ) → Exact l g (of_register (registerAnswer l g i)).number
+pub register_exact : (l : List ℕ) (g i : ℕ) → Exact l g (of_register (register_answer l g i)).number
 register_exact l g i = go (eqb (length l) whole) refl (ltb g 9) refl
   where
     go : (z : Bool) → eqb (length l) whole ≡ z → (y : Bool) → ltb g 9 ≡ y
@@ -98,7 +98,7 @@ pub record Parts (c : Rgb) (word : ℕ) : Type 0 where
 pub colour_parts : (c : Rgb) → c.red < 256 → c.green < 256 → c.blue < 256 → Parts c (colour_word (Given c))
 colour_parts c r g b = record { number = omega arith; red = omega arith; green = omega arith; blue = omega arith }
 
-pub no_colour : (l : List ℕ) (e : ℕ) → (length l ≡ whole → ⊥) → (colour_word (entryAnswer l e) ≡ 0xFF000000) × (colour_word (pixelAnswer l e) ≡ 0xFF000000)
+pub no_colour : (l : List ℕ) (e : ℕ) → (length l ≡ whole → ⊥) → (colour_word (entry_answer l e) ≡ 0xFF000000) × (colour_word (pixel_answer l e) ≡ 0xFF000000)
 no_colour l e n = (rw (ne_eqb _ _ n), rw (ne_eqb _ _ n))
 
 -- a refusal shows FFh

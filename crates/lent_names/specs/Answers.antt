@@ -15,12 +15,12 @@ use Rattle.lent_names.specs.declared.Colour.{Colour}
 use Rattle.lent_names.specs.declared.Colour.TheVariants.{Given, Length as ColourLength}
 
 -- the byte of a register
-abbrev pub registerAnswer : List ℕ → ℕ → ℕ → Register
-registerAnswer l g i = cond (is_state l) (cond (ltb g 9) (Byte (register (group_at g) (named (view l)) i)) NoGroup) RegisterLength
+abbrev pub register_answer : List ℕ → ℕ → ℕ → Register
+register_answer l g i = cond (is_state l) (cond (ltb g 9) (Byte (register (group_at g) (named (view l)) i)) NoGroup) RegisterLength
 
 -- the colour that an entry stores, and the colour that a pixel shows
-abbrev pub entryAnswer : List ℕ → ℕ → Colour
-entryAnswer l e = cond (is_state l) (Given (entry (named (view l)) e)) ColourLength
+abbrev pub entry_answer : List ℕ → ℕ → Colour
+entry_answer l e = cond (is_state l) (Given (entry (named (view l)) e)) ColourLength
 
-abbrev pub pixelAnswer : List ℕ → ℕ → Colour
-pixelAnswer l p = cond (is_state l) (Given (shown (named (view l)) p)) ColourLength
+abbrev pub pixel_answer : List ℕ → ℕ → Colour
+pixel_answer l p = cond (is_state l) (Given (shown (named (view l)) p)) ColourLength

@@ -11,7 +11,7 @@ ghost use Rattle.chip.specs.State.{named};
 ghost use Rattle.chip.specs.Names.{register, eight_bit};
 ghost use Rattle.chip.specs.Palette.{bright as brightOf, entry as entry_at, shown as shownOf};
 ghost use Rattle.lent_chip.specs.Layout.{whole, view};
-ghost use Rattle.lent_names.specs.Answers.{registerAnswer, entryAnswer, pixelAnswer};
+ghost use Rattle.lent_names.specs.Answers.{register_answer, entry_answer, pixel_answer};
 
 use chip::Rgb;
 use chip_masks::entry_at;
@@ -92,7 +92,7 @@ fn shown(state: &[u8], pixel: u8) -> Rgb
 
 // The byte of a register, by its group's number and its index.
 pub fn register_of(state: &[u8], group: u8, index: u8) -> Register
-    ensures { result ≡ registerAnswer state.now group index }
+    ensures { result ≡ register_answer state.now group index }
 {
     if state.len() != STATE {
         return Register::Length;
@@ -105,7 +105,7 @@ pub fn register_of(state: &[u8], group: u8, index: u8) -> Register
 
 // The colour that an entry of the palette stores.
 pub fn entry_of(state: &[u8], e: u8) -> Colour
-    ensures { result ≡ entryAnswer state.now e }
+    ensures { result ≡ entry_answer state.now e }
 {
     if state.len() != STATE {
         return Colour::Length;
@@ -115,7 +115,7 @@ pub fn entry_of(state: &[u8], e: u8) -> Colour
 
 // The colour that a pixel shows.
 pub fn colour_of(state: &[u8], pixel: u8) -> Colour
-    ensures { result ≡ pixelAnswer state.now pixel }
+    ensures { result ≡ pixel_answer state.now pixel }
 {
     if state.len() != STATE {
         return Colour::Length;
