@@ -1,5 +1,5 @@
 -- The text lies within the buffer that it was put into.
-use Rattle.std.proofs.Common.{◌≤◌, length, sym, arith, length-take-le}
+use Rattle.std.proofs.Common.{length, sym, arith, length-take-le}
 use Rattle.text_played.proofs.Lengths.{told-within}
 use Rattle.after.proofs.print_text.Goals as goal
 

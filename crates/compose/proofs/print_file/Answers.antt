@@ -1,5 +1,5 @@
 -- The file lies within the buffer that it was put into.
-use Rattle.std.proofs.Common.{◌*◌, ◌≤◌, [], length, sym, arith, length-take-le}
+use Rattle.std.proofs.Common.{[], length, sym, arith, length-take-le}
 use Rattle.text_to_script.specs.Lines.{text_lines}
 use Rattle.text_to_script.proofs.Gathering.{composed-within}
 use Rattle.compose.proofs.print_file.Goals as goal

@@ -1,5 +1,5 @@
 -- The text's length lies within the buffer that it was put into.
-use Rattle.std.proofs.Common.{◌≤◌, length, sym, ap, ◌∙◌, arith, length-take-le}
+use Rattle.std.proofs.Common.{length, sym, ap, arith, length-take-le}
 use Rattle.text_listing.proofs.TextLaws.{counted, listed-within}
 use Rattle.listing.proofs.print_listing.Goals as goal
 
