@@ -12,7 +12,7 @@ use lib.ListN.{length, get_or, set, length-set}
 use lib.Seq.{get_or-set_same, get_or-set_other, set-get_or}
 use borrow.Author.Tests.{ltb-true}
 use Rattle.lists.specs.Scan.{every}
-use Rattle.lists.proofs.Tests.{and_both}
+use Rattle.std.proofs.lemmas.Bool.{and_parts}
 use Rattle.blit_raster.specs.Raster.{raster, uses_source, uses_pattern}
 use Rattle.blit_raster.proofs.Laws.{aah_destination, cch_source}
 use Rattle.blit_frame.specs.declared.Area.{Area}
@@ -183,9 +183,9 @@ module _ (m : List ℕ) (t : Transfer) (ok : accepted (length m) t ≡ true) (on
   in_place : place t t.destination r c < length m
   unfolding is_in_memory
   in_place =
-      let g = (and_both (length_allowed (length m) && in_range t) _ ok).1 in
-      let d = (and_both (every_byte t (within (length m) t t.destination)) _ (and_both _ _ g).0).0 in
-      ltb-true _ _ (and_both (leb (behind t t.destination r c) (t.destination.address + ahead t t.destination r c)) _ (bytes-at t (within (length m) t t.destination) r c hr hc d)).1
+      let g = (and_parts (length_allowed (length m) && in_range t) _ ok).1 in
+      let d = (and_parts (every_byte t (within (length m) t t.destination)) _ (and_parts _ _ g).0).0 in
+      ltb-true _ _ (and_parts (leb (behind t t.destination r c) (t.destination.address + ahead t t.destination r c)) _ (bytes-at t (within (length m) t t.destination) r c hr hc d)).1
 
   -- where no byte is written twice or read after it was written, each destination byte becomes the raster byte of the memory as
   -- it was

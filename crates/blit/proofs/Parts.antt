@@ -10,7 +10,7 @@ use native.Mathlib.Numerals.{add-one}
 use native.Mathlib.Omega.{arith}
 use lib.ListN.{length, get_or, set, length-set}
 use lib.Seq.{get_or-set_same, get_or-set_other, ext_get_or}
-use Rattle.blit.specs.Working.{Part, Apart, bytes_from}
+use Rattle.blit.specs.Working.{Part, bytes_from}
 
 pub less_or_equal : (a b : ℕ) → (a < b) ⊎ (b ≤ a)
 less_or_equal a zero = inr (omega arith)
@@ -68,10 +68,6 @@ part_unique low u w m a b A B =
     (λ g. A.above x g ∙ sym (B.above x g)) (less_or_equal x (low + w)))
     (less_or_equal x low))
 
--- what the stretch has not reached is read as it was
-pub apart-read : (d s w c : ℕ) (u : ℕ → ℕ) (m m' : List ℕ) → Apart d s w → c < w → Part d u 0 c m m' → get_or m' (s + c) 0 ≡ get_or m (s + c) 0
-apart-read d s w c u m m' h l P = ⊎_elim (λ q. P.above (s + c) (omega arith)) (λ q. P.below (s + c) (omega arith)) h
-
 -- an operand that is looked at only if `b`
 pub when : (b : Bool) (x y : ℕ) → (b ≡ true → x ≡ y) → cond b x 0 ≡ cond b y 0
 when true x y h = h refl
@@ -81,18 +77,13 @@ when false x y h = refl
 pub front : (u : ℕ → ℕ) (w : ℕ) (m m' : List ℕ) → Part 0 u 0 w m m' → (k : ℕ) → k < w → get_or m' k 0 ≡ u k
 front u w m m' P k h = let z : k ≡ 0 + k = omega arith in ap (λ (y : ℕ). get_or m' y 0) z ∙ P.done k zero-le h
 
--- what was taken to a buffer b, and put from there
-pub taken-put : (d s w : ℕ) (m m' b₀ b : List ℕ) → Part 0 (bytes_from s m) 0 w b₀ b → Part d (λ k. get_or b k 0) 0 w m m' → Part d (bytes_from s m) 0 w m m'
-taken-put d s w m m' b₀ b T P = part_as d (λ k. get_or b k 0) (bytes_from s m) w m m' (λ k h. front (bytes_from s m) w b₀ b T k h) P
-
--- eight bytes from p, taken to r and put twice
-pub put_twice : (p : ℕ) (m r₀ r b₀ b₁ b₂ : List ℕ) → Part 0 (bytes_from p m) 0 8 r₀ r → Part 0 (λ k. get_or r k 0) 0 8 b₀ b₁ → Part 8 (λ k. get_or r k 0) 0 8 b₁ b₂
+-- eight bytes from p, put twice
+pub put_twice : (p : ℕ) (m b₀ b₁ b₂ : List ℕ) → Part 0 (bytes_from p m) 0 8 b₀ b₁ → Part 8 (bytes_from p m) 0 8 b₁ b₂
     → (x : ℕ) → x < 16 → get_or b₂ x 0 ≡ get_or m (p + x % 8) 0
-put_twice p m r₀ r b₀ b₁ b₂ R A B x h =
-    let row : (k : ℕ) → k < 8 → get_or r k 0 ≡ get_or m (p + k) 0 = front (bytes_from p m) 8 r₀ r R in
+put_twice p m b₀ b₁ b₂ A B x h =
     ⊎_elim
-    (λ q. B.below x (omega arith) ∙ front (λ k. get_or r k 0) 8 b₀ b₁ A x q ∙ row x q ∙ ap (λ (y : ℕ). get_or m (p + y) 0) (omega arith))
+    (λ q. B.below x (omega arith) ∙ front (bytes_from p m) 8 b₀ b₁ A x q ∙ ap (λ (y : ℕ). get_or m (p + y) 0) (omega arith))
     (λ q.
     let z : x ≡ 8 + (x - 8) = omega arith in
-    ap (λ (y : ℕ). get_or b₂ y 0) z ∙ B.done (x - 8) zero-le (omega arith) ∙ row (x - 8) (omega arith) ∙ ap (λ (y : ℕ). get_or m (p + y) 0) (omega arith))
+    ap (λ (y : ℕ). get_or b₂ y 0) z ∙ B.done (x - 8) zero-le (omega arith) ∙ ap (λ (y : ℕ). get_or m (p + y) 0) (omega arith))
     (less_or_equal x 8)

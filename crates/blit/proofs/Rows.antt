@@ -9,7 +9,7 @@ use native.Mathlib.Omega.{arith}
 use lib.Dec.{ltb}
 use lib.ListN.{get_or}
 use borrow.Author.Tests.{ltb-true}
-use Rattle.lists.proofs.Tests.{and_both}
+use Rattle.std.proofs.lemmas.Bool.{and_parts}
 use Rattle.blit_raster.specs.Raster.{uses_source, uses_pattern}
 use Rattle.memory.specs.Memory.{length_allowed}
 use Rattle.memory.proofs.Laws.{allowed}
@@ -28,7 +28,7 @@ use Rattle.blit.proofs.Parts.{when}
 -- what it is to be accepted
 module _ (n : ℕ) (t : Transfer) (yes-so : accepted n t ≡ true) where
   first_two : (length_allowed n ≡ true) × (in_range t ≡ true)
-  first_two = and_both _ _ (and_both (length_allowed n && in_range t) _ yes-so).0
+  first_two = and_parts _ _ (and_parts (length_allowed n && in_range t) _ yes-so).0
 
   pub sizes : (4096 ≤ n) × (n ≤ 2097152)
   sizes = allowed n first_two.0
@@ -37,7 +37,7 @@ module _ (n : ℕ) (t : Transfer) (yes-so : accepted n t ≡ true) where
   in_ranges = ranges t first_two.1
 
   pub in_memory_lem : is_in_memory n t ≡ true
-  in_memory_lem = (and_both (length_allowed n && in_range t) _ yes-so).1
+  in_memory_lem = (and_parts (length_allowed n && in_range t) _ yes-so).1
 
   pub lowest_line : lines_below t 0 < t.height
   lowest_line = by t.upward

@@ -14,9 +14,9 @@ use Rattle.blit_raster.proofs.Laws.{cch_source, raster_no_source}
 use Rattle.blit.specs.Transfer.{in_turn}
 use Rattle.blit.proofs.Turns.{in_turn-same, in_turn-more}
 use Rattle.blit_frame.specs.Lines.{byte_at}
-use Rattle.blit.specs.Working.{Part, SourceStill, PatternStill, line_byte, bytes_from, plain_byte, blended_byte, taken_byte, becomes}
-use Rattle.blit.proofs.Parts.{part_as, part_unique, front, when, less_or_equal}
-use Rattle.blit.proofs.Line.{line-part}
+use Rattle.blit.specs.Working.{Part, SourceStill, PatternStill, line_byte, bytes_from, blended_byte, taken_byte, becomes}
+use Rattle.blit.proofs.Parts.{part_as, part_unique, front, when}
+use Rattle.blit.proofs.Still.{line-part}
 
 -- a source that is not used may be anything
 anyway : (code : ℕ) (source : Bool) (p x d : ℕ) → source ≡ uses_source code → raster code p x d ≡ raster code p (cond source x 0) d
@@ -60,12 +60,8 @@ module _ (code : ℕ) (source pattern : Bool) (d s p w : ℕ) (m m' : List ℕ) 
     pub blended-taken : Part d (becomes code true pattern d s p m) 0 w m m' → Part d (becomes code source pattern d s p m) 0 w m m'
     blended-taken = by_bytes _ (λ k h. anyway code source _ (get_or m (s + k) 0) (get_or m (d + k) 0) su)
 
-    pub blended : pattern ≡ true → (pat : List ℕ) → ((x : ℕ) → x < d % 8 + w → get_or pat x 0 ≡ get_or m (p + x % 8) 0)
-        → Part d (blended_byte code source d s (d % 8) pat m) 0 w m m' → Part d (becomes code source pattern d s p m) 0 w m m'
-    blended e pat tiled = by_bytes _ (λ k h. rw (tiled_byte d p w m pat tiled k h, e))
-
-    pub blended-plain : pattern ≡ false → Part d (plain_byte code d s m) 0 w m m' → Part d (becomes code source pattern d s p m) 0 w m m'
-    blended-plain e = by_bytes _ (λ k h. rw e (anyway code source 0 (get_or m (s + k) 0) (get_or m (d + k) 0) su))
+    pub blended-plain : pattern ≡ false → (f : ℕ) (pat : List ℕ) → Part d (blended_byte code true false d s f pat m) 0 w m m' → Part d (becomes code source pattern d s p m) 0 w m m'
+    blended-plain e f pat = by_bytes _ (λ k h. rw e (anyway code source 0 (get_or m (s + k) 0) (get_or m (d + k) 0) su))
 
 -- ---- a line in pieces
 
@@ -74,10 +70,6 @@ piece_still : (left : Bool) (d s k o n : ℕ) → n ≤ k → SourceStill left d
 piece_still true d s k o n h f = ⊎_elim (λ q. inl (omega arith)) (λ q. inr (omega arith)) f
 piece_still false d s k o n h f = ⊎_elim (λ q. inl (omega arith)) (λ q. inr (omega arith)) f
 
-pub gap_still : (left : Bool) (d s k : ℕ) → (d ≤ s → d + k ≡ s) → (s ≤ d → s + k ≡ d) → SourceStill left d s k
-gap_still true d s k f g = ⊎_elim (λ h. inr (omega (arith, f (omega arith)))) (λ h. inl h) (less_or_equal d s)
-gap_still false d s k f g = ⊎_elim (λ h. inr (omega (arith, g (omega arith)))) (λ h. inl h) (less_or_equal s d)
-
 piece_at : (left : Bool) (a w c n i : ℕ) → c + n ≤ w → i < n → byte_at left a w (c + i) ≡ byte_at left (a + cond left (w - c - n) c) n i
 piece_at true a w c n i h l = omega arith
 piece_at false a w c n i h l = omega arith
@@ -85,7 +77,7 @@ piece_at false a w c n i h l = omega arith
 module _ (code : ℕ) (pattern left : Bool) (d s p w k : ℕ) (m₀ m m' : List ℕ) (c n o : ℕ) where
   pub piece_done : length m ≡ length m₀ → d + w ≤ length m₀ → SourceStill left d s k → (pattern ≡ true → PatternStill (length m₀) d p w)
       → c + n ≤ w → n ≤ k → o ≡ cond left (w - c - n) c → o + n ≤ w → m ≡ in_turn c (line_byte code (uses_source code) pattern left d s p w) m₀
-      → Part (d + o) (becomes code true pattern (d + o) (s + o) p m) 0 n m m' → m' ≡ in_turn (c + n) (line_byte code (uses_source code) pattern left d s p w) m₀
+      → Part (d + o) (becomes code (uses_source code) pattern (d + o) (s + o) p m) 0 n m m' → m' ≡ in_turn (c + n) (line_byte code (uses_source code) pattern left d s p w) m₀
   unfolding line_byte
   piece_done em fits first still hc hk ho hn e P =
       let still' : pattern ≡ true → PatternStill (length m) (d + o) p n = λ q.
@@ -93,8 +85,7 @@ module _ (code : ℕ) (pattern left : Bool) (d s p w k : ℕ) (m₀ m m' : List 
         whole = omega (arith, (still q).whole);
         apart = ⊎_elim (λ z. inl (omega arith)) (λ z. inr (omega arith)) (still q).apart;
       } in
-      still-done code (uses_source code) pattern (d + o) (s + o) p n m m' left (omega arith) (piece_still left d s k o n hk first) still'
-      (blended-taken code (uses_source code) pattern (d + o) (s + o) p n m m' refl P)
+      still-done code (uses_source code) pattern (d + o) (s + o) p n m m' left (omega arith) (piece_still left d s k o n hk first) still' P
       ∙ sym (in_turn-same n (λ i m. line_byte code (uses_source code) pattern left d s p w (c + i) m) (line_byte code (uses_source code) pattern left (d + o) (s + o) p n)
       (λ i l m. rw (ho, piece_at left d w c n i hc l, piece_at left s w c n i hc l)) m)
       ∙ ap (in_turn n (λ i m. line_byte code (uses_source code) pattern left d s p w (c + i) m)) e

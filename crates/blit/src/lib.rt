@@ -9,19 +9,18 @@ ghost use Rattle.blit_frame.specs.Frame.{judged, judged_number};
 ghost use Rattle.blit.specs.Transfer.{transferred};
 
 use blit_frame::Transfer;
-use memory::Answer;
+use memory::Refusal;
 
+mod line;
 mod lines;
 
 // A block transfer.
-pub fn block_transfer(mem: &mut [u8], t: Transfer) -> Answer
+pub fn block_transfer(mem: &mut [u8], t: Transfer) -> Result<(), Refusal>
     ensures value { result ≡ judged (length mem.old) t }
     ensures result_value { answer_number result ≡ judged_number (length mem.old) t }
     ensures mem_after { mem.new ≡ transferred mem.old t }
 {
-    if let Answer::Refused(why) = blit_frame::judge(mem.len(), t) {
-        return Answer::Refused(why);
-    }
+    blit_frame::judge(mem.len(), t)?;
     lines::run(mem, t);
-    Answer::Done
+    Ok(())
 }

@@ -8,14 +8,15 @@ ghost use Rattle.blit_raster.specs.Raster.{uses_source, uses_pattern};
 ghost use Rattle.blit_frame.specs.Frame.{accepted};
 ghost use Rattle.blit_frame.specs.Lines.{byte_at, low_of, line_low, pattern_low};
 ghost use Rattle.blit.specs.Transfer.{in_turn, line_done, lines_done};
-ghost use Rattle.blit.specs.Working.{Part, Apart, SourceStill, PatternStill, source_low, lines_below};
-ghost use Rattle.blit.specs.Working.{line_byte, bytes_from, plain_byte, blended_byte, taken_byte, becomes};
+ghost use Rattle.blit.specs.Working.{Part, Apart, SourceStill, PatternStill, LiesIn, PatternIn, Room, source_low, lines_below};
+ghost use Rattle.blit.specs.Working.{byte_of, bytes_from, blended_byte, taken_byte, becomes_of};
 
+use crate::line::Line;
 use blit_frame::{Transfer, least, line_low, pattern_line};
 
 // An operand that is not looked at counts as 0.
 fn fetch(mem: &[u8], used: bool, at: usize) -> u8
-    requires { at < length mem.now }
+    requires { used ≡ true → at < length mem.now }
     ensures { result ≡ cond used (get_or mem.now at 0) 0 }
 {
     if used { mem[at] } else { 0 }
@@ -29,202 +30,139 @@ fn byte_at(left: bool, low: usize, w: usize, c: usize) -> usize
     if left { low + (w - 1 - c) } else { low + c }
 }
 
-// A line, byte by byte in its direction: right whatever overlaps.
-fn one_by_one(
-    mem: &mut [u8],
-    code: u8,
-    source: bool,
-    pattern: bool,
-    left: bool,
-    d: usize,
-    s: usize,
-    p: usize,
-    w: usize,
-)
-    requires w_in_bounds { (d + w ≤ length mem.old) × (s + w ≤ length mem.old) × (length mem.old < 2 ^ 62) × (p < 2 ^ 62) }
-    requires by_index { (c : ℕ) → c < w → p + byte_at left d w c % 8 < length mem.old }
-    ensures { mem.new ≡ in_turn w (line_byte code source pattern left d s p w) mem.old }
+// The n bytes of `from` at `start`, to `to` at `at`.
+fn copy(to: &mut [u8], at: usize, from: &[u8], start: usize, n: usize)
+    requires { (at + n ≤ length to.old) × (start + n ≤ length from.now) }
+    ensures copied { Part at (bytes_from start from.now) 0 n to.old to.new }
+    ensures bytes { (k : ℕ) → k < n → get_or from.now (start + k) 0 < 256 }
 {
-    let mut c = 0;
-    while c < w {
-        let i = byte_at(left, d, w, c);
-        let j = byte_at(left, s, w, c);
-        let pb = fetch(mem, pattern, p + i % 8);
-        let sb = fetch(mem, source, j);
-        mem[i] = blit_raster::raster_byte(code, pb, sb, mem[i]);
-        c += 1;
-    }
+    to[at..at + n].copy_from_slice(&from[start..start + n]);
 }
 
-// The w bytes from `from` on, to the front of a buffer.
-fn take(mem: &[u8], buf: &mut [u8], from: usize, w: usize)
-    requires { (from + w ≤ length mem.now) × (w ≤ length buf.old) }
-    ensures part { Part 0 (bytes_from from mem.now) 0 w buf.old buf.new }
-    ensures by_index { (k : ℕ) → k < w → get_or mem.now (from + k) 0 < 256 }
-{
-    let mut c = 0;
-    while c < w {
-        buf[c] = mem[from + c];
-        c += 1;
-    }
-}
-
-// The first w bytes of a buffer, to d.
-fn put(mem: &mut [u8], buf: &[u8], d: usize, w: usize)
-    requires { (d + w ≤ length mem.old) × (w ≤ length buf.now) }
-    ensures { Part d (λ k. get_or buf.now k 0) 0 w mem.old mem.new }
-{
-    let mut c = 0;
-    while c < w {
-        mem[d + c] = buf[c];
-        c += 1;
-    }
-}
-
-// The raster bytes of a line in place, of a code that does not look at the pattern.
-fn blend_plain(mem: &mut [u8], code: u8, d: usize, s: usize, w: usize)
-    requires w_in_bounds { (d + w ≤ length mem.old) × (s + w ≤ length mem.old) }
-    requires fact { (Apart d s w) ⊎ (s ≡ d) }
-    ensures { Part d (plain_byte code d s mem.old) 0 w mem.old mem.new }
-{
-    let mut c = 0;
-    while c < w {
-        mem[d + c] = blit_raster::raster_byte(code, 0, mem[s + c], mem[d + c]);
-        c += 1;
-    }
-}
-
-// The same. With the code known the compiler makes a loop of what is left of its terms, so each code that looks at no pattern
-// has one. CCh does not come here.
-fn blend_known(mem: &mut [u8], code: u8, d: usize, s: usize, w: usize)
-    requires w_in_bounds { (d + w ≤ length mem.old) × (s + w ≤ length mem.old) }
-    requires fact { (Apart d s w) ⊎ (s ≡ d) }
-    ensures { Part d (plain_byte code d s mem.old) 0 w mem.old mem.new }
-{
-    match code {
-        0x00 => blend_plain(mem, 0x00, d, s, w),
-        0x11 => blend_plain(mem, 0x11, d, s, w),
-        0x22 => blend_plain(mem, 0x22, d, s, w),
-        0x33 => blend_plain(mem, 0x33, d, s, w),
-        0x44 => blend_plain(mem, 0x44, d, s, w),
-        0x55 => blend_plain(mem, 0x55, d, s, w),
-        0x66 => blend_plain(mem, 0x66, d, s, w),
-        0x77 => blend_plain(mem, 0x77, d, s, w),
-        0x88 => blend_plain(mem, 0x88, d, s, w),
-        0x99 => blend_plain(mem, 0x99, d, s, w),
-        0xAA => blend_plain(mem, 0xAA, d, s, w),
-        0xBB => blend_plain(mem, 0xBB, d, s, w),
-        0xDD => blend_plain(mem, 0xDD, d, s, w),
-        0xEE => blend_plain(mem, 0xEE, d, s, w),
-        0xFF => blend_plain(mem, 0xFF, d, s, w),
-        _ => blend_plain(mem, code, d, s, w),
-    }
-}
-
-// The raster bytes of a line in place, with its pattern in `pat` from f on.
-fn blend(mem: &mut [u8], pat: &[u8], code: u8, source: bool, d: usize, s: usize, f: usize, w: usize)
-    requires w_in_bounds { (d + w ≤ length mem.old) × (s + w ≤ length mem.old) × (f + w ≤ length pat.now) }
-    requires apart { source ≡ true → Apart d s w }
-    ensures { Part d (blended_byte code source d s f pat.now mem.old) 0 w mem.old mem.new }
-{
-    let mut c = 0;
-    while c < w {
-        let sb = fetch(mem, source, s + c);
-        mem[d + c] = blit_raster::raster_byte(code, pat[f + c], sb, mem[d + c]);
-        c += 1;
-    }
-}
-
-// The same, with a loop for each code that looks at the pattern and at no source.
-fn blend_filled(
+// The raster bytes of a line in place, with its pattern in `pat` from f on. Whether it has a source and a pattern are const
+// parameters: as plain ones they would be tested at each byte.
+fn blend<const SOURCE: bool, const PATTERN: bool>(
     mem: &mut [u8],
     pat: &[u8],
     code: u8,
-    source: bool,
     d: usize,
     s: usize,
     f: usize,
     w: usize,
 )
-    requires w_in_bounds { (d + w ≤ length mem.old) × (s + w ≤ length mem.old) × (f + w ≤ length pat.now) }
-    requires apart { source ≡ true → Apart d s w }
-    ensures { Part d (blended_byte code source d s f pat.now mem.old) 0 w mem.old mem.new }
+    requires in_bounds { (d + w ≤ length mem.old) × (s + w ≤ length mem.old) × (f + w ≤ length pat.now) }
+    requires source_unwritten { SOURCE ≡ true → (Apart d s w) ⊎ (s ≡ d) }
+    ensures { Part d (blended_byte code SOURCE PATTERN d s f pat.now mem.old) 0 w mem.old mem.new }
 {
-    if source {
-        blend(mem, pat, code, true, d, s, f, w);
-        return;
-    }
-    match code {
-        0x05 => blend(mem, pat, 0x05, false, d, s, f, w),
-        0x0A => blend(mem, pat, 0x0A, false, d, s, f, w),
-        0x0F => blend(mem, pat, 0x0F, false, d, s, f, w),
-        0x50 => blend(mem, pat, 0x50, false, d, s, f, w),
-        0x5A => blend(mem, pat, 0x5A, false, d, s, f, w),
-        0x5F => blend(mem, pat, 0x5F, false, d, s, f, w),
-        0xA0 => blend(mem, pat, 0xA0, false, d, s, f, w),
-        0xA5 => blend(mem, pat, 0xA5, false, d, s, f, w),
-        0xAF => blend(mem, pat, 0xAF, false, d, s, f, w),
-        0xF0 => blend(mem, pat, 0xF0, false, d, s, f, w),
-        0xF5 => blend(mem, pat, 0xF5, false, d, s, f, w),
-        0xFA => blend(mem, pat, 0xFA, false, d, s, f, w),
-        _ => blend(mem, pat, code, false, d, s, f, w),
+    let source = SOURCE;
+    let pattern = PATTERN;
+    for c in 0..w {
+        let pb = fetch(pat, pattern, f + c);
+        let sb = fetch(mem, source, s + c);
+        mem[d + c] = blit_raster::raster_byte(code, pb, sb, mem[d + c]);
     }
 }
 
-// The raster bytes of a line whose source was taken to `src`.
-fn blend_taken(
+// The same of a line whose source was copied to `src`. A loop of its own: a slice that is written cannot be lent as the source
+// too, and with a closure for the source's byte the contract would be one of calls, and not what each byte becomes.
+fn blend_taken<const PATTERN: bool>(
     mem: &mut [u8],
     pat: &[u8],
     src: &[u8],
     code: u8,
-    pattern: bool,
     d: usize,
     f: usize,
     w: usize,
 )
     requires { (d + w ≤ length mem.old) × (w ≤ length src.now) × (f + w ≤ length pat.now) }
-    ensures { Part d (taken_byte code pattern d f pat.now src.now mem.old) 0 w mem.old mem.new }
+    ensures { Part d (taken_byte code PATTERN d f pat.now src.now mem.old) 0 w mem.old mem.new }
 {
-    let mut c = 0;
-    while c < w {
+    let pattern = PATTERN;
+    for c in 0..w {
         let pb = fetch(pat, pattern, f + c);
         mem[d + c] = blit_raster::raster_byte(code, pb, src[c], mem[d + c]);
-        c += 1;
     }
 }
 
-// The same, with a loop for each code that looks at the source and at no pattern.
-fn blend_copied(
-    mem: &mut [u8],
-    pat: &[u8],
-    src: &[u8],
-    code: u8,
-    pattern: bool,
-    d: usize,
-    f: usize,
-    w: usize,
-)
-    requires { (d + w ≤ length mem.old) × (w ≤ length src.now) × (f + w ≤ length pat.now) }
-    ensures { Part d (taken_byte code pattern d f pat.now src.now mem.old) 0 w mem.old mem.new }
+// The raster bytes of a line in place, of a code that looks at no pattern. With the code known the compiler makes a loop of what
+// is left of its terms, so each such code has one; CCh does not come here. A const parameter for the code would ask for the same
+// table. The line's numbers are parameters of their own, and no `Line`: that would have to lie in memory for the call.
+fn blend_plain(mem: &mut [u8], pat: &[u8], code: u8, d: usize, s: usize, w: usize)
+    requires in_bounds { (d + w ≤ length mem.old) × (s + w ≤ length mem.old) × (w ≤ length pat.now) }
+    requires source_unwritten { (Apart d s w) ⊎ (s ≡ d) }
+    ensures { Part d (blended_byte code true false d s 0 pat.now mem.old) 0 w mem.old mem.new }
 {
-    if pattern {
-        blend_taken(mem, pat, src, code, true, d, f, w);
+    let f = 0;
+    match code {
+        0x00 => blend::<true, false>(mem, pat, 0x00, d, s, f, w),
+        0x11 => blend::<true, false>(mem, pat, 0x11, d, s, f, w),
+        0x22 => blend::<true, false>(mem, pat, 0x22, d, s, f, w),
+        0x33 => blend::<true, false>(mem, pat, 0x33, d, s, f, w),
+        0x44 => blend::<true, false>(mem, pat, 0x44, d, s, f, w),
+        0x55 => blend::<true, false>(mem, pat, 0x55, d, s, f, w),
+        0x66 => blend::<true, false>(mem, pat, 0x66, d, s, f, w),
+        0x77 => blend::<true, false>(mem, pat, 0x77, d, s, f, w),
+        0x88 => blend::<true, false>(mem, pat, 0x88, d, s, f, w),
+        0x99 => blend::<true, false>(mem, pat, 0x99, d, s, f, w),
+        0xAA => blend::<true, false>(mem, pat, 0xAA, d, s, f, w),
+        0xBB => blend::<true, false>(mem, pat, 0xBB, d, s, f, w),
+        0xDD => blend::<true, false>(mem, pat, 0xDD, d, s, f, w),
+        0xEE => blend::<true, false>(mem, pat, 0xEE, d, s, f, w),
+        0xFF => blend::<true, false>(mem, pat, 0xFF, d, s, f, w),
+        _ => blend::<true, false>(mem, pat, code, d, s, f, w),
+    }
+}
+
+// The same with its pattern in `pat` from f on, and a loop for each code that looks at the pattern and at no source.
+fn blend_filled(mem: &mut [u8], pat: &[u8], code: u8, d: usize, s: usize, f: usize, w: usize)
+    requires in_bounds { (d + w ≤ length mem.old) × (s + w ≤ length mem.old) × (f + w ≤ length pat.now) }
+    requires apart { uses_source code ≡ true → Apart d s w }
+    ensures { Part d (blended_byte code (uses_source code) true d s f pat.now mem.old) 0 w mem.old mem.new }
+{
+    if blit_raster::uses_source(code) {
+        blend::<true, true>(mem, pat, code, d, s, f, w);
         return;
     }
     match code {
-        0x11 => blend_taken(mem, pat, src, 0x11, false, d, f, w),
-        0x22 => blend_taken(mem, pat, src, 0x22, false, d, f, w),
-        0x33 => blend_taken(mem, pat, src, 0x33, false, d, f, w),
-        0x44 => blend_taken(mem, pat, src, 0x44, false, d, f, w),
-        0x66 => blend_taken(mem, pat, src, 0x66, false, d, f, w),
-        0x77 => blend_taken(mem, pat, src, 0x77, false, d, f, w),
-        0x88 => blend_taken(mem, pat, src, 0x88, false, d, f, w),
-        0x99 => blend_taken(mem, pat, src, 0x99, false, d, f, w),
-        0xBB => blend_taken(mem, pat, src, 0xBB, false, d, f, w),
-        0xCC => blend_taken(mem, pat, src, 0xCC, false, d, f, w),
-        0xDD => blend_taken(mem, pat, src, 0xDD, false, d, f, w),
-        0xEE => blend_taken(mem, pat, src, 0xEE, false, d, f, w),
-        _ => blend_taken(mem, pat, src, code, false, d, f, w),
+        0x05 => blend::<false, true>(mem, pat, 0x05, d, s, f, w),
+        0x0A => blend::<false, true>(mem, pat, 0x0A, d, s, f, w),
+        0x0F => blend::<false, true>(mem, pat, 0x0F, d, s, f, w),
+        0x50 => blend::<false, true>(mem, pat, 0x50, d, s, f, w),
+        0x5A => blend::<false, true>(mem, pat, 0x5A, d, s, f, w),
+        0x5F => blend::<false, true>(mem, pat, 0x5F, d, s, f, w),
+        0xA0 => blend::<false, true>(mem, pat, 0xA0, d, s, f, w),
+        0xA5 => blend::<false, true>(mem, pat, 0xA5, d, s, f, w),
+        0xAF => blend::<false, true>(mem, pat, 0xAF, d, s, f, w),
+        0xF0 => blend::<false, true>(mem, pat, 0xF0, d, s, f, w),
+        0xF5 => blend::<false, true>(mem, pat, 0xF5, d, s, f, w),
+        0xFA => blend::<false, true>(mem, pat, 0xFA, d, s, f, w),
+        _ => blend::<false, true>(mem, pat, code, d, s, f, w),
+    }
+}
+
+// The same with its source in `src`, and a loop for each code that looks at the source and at no pattern.
+fn blend_copied(mem: &mut [u8], pat: &[u8], src: &[u8], code: u8, d: usize, f: usize, w: usize)
+    requires { (d + w ≤ length mem.old) × (w ≤ length src.now) × (f + w ≤ length pat.now) }
+    ensures { Part d (taken_byte code (uses_pattern code) d f pat.now src.now mem.old) 0 w mem.old mem.new }
+{
+    if blit_raster::uses_pattern(code) {
+        blend_taken::<true>(mem, pat, src, code, d, f, w);
+        return;
+    }
+    match code {
+        0x11 => blend_taken::<false>(mem, pat, src, 0x11, d, f, w),
+        0x22 => blend_taken::<false>(mem, pat, src, 0x22, d, f, w),
+        0x33 => blend_taken::<false>(mem, pat, src, 0x33, d, f, w),
+        0x44 => blend_taken::<false>(mem, pat, src, 0x44, d, f, w),
+        0x66 => blend_taken::<false>(mem, pat, src, 0x66, d, f, w),
+        0x77 => blend_taken::<false>(mem, pat, src, 0x77, d, f, w),
+        0x88 => blend_taken::<false>(mem, pat, src, 0x88, d, f, w),
+        0x99 => blend_taken::<false>(mem, pat, src, 0x99, d, f, w),
+        0xBB => blend_taken::<false>(mem, pat, src, 0xBB, d, f, w),
+        0xCC => blend_taken::<false>(mem, pat, src, 0xCC, d, f, w),
+        0xDD => blend_taken::<false>(mem, pat, src, 0xDD, d, f, w),
+        0xEE => blend_taken::<false>(mem, pat, src, 0xEE, d, f, w),
+        _ => blend_taken::<false>(mem, pat, src, code, d, f, w),
     }
 }
 
@@ -233,98 +171,31 @@ fn spread(buf: &mut [u8], k: usize, n: usize)
     requires { (1 ≤ k) × (k % 8 ≡ 0) × (n ≤ length buf.old) }
     ensures { (g : ℕ → ℕ) → ((x : ℕ) → x < k → x < n → get_or buf.old x 0 ≡ g (x % 8)) → (x : ℕ) → x < n → get_or buf.new x 0 ≡ g (x % 8) }
 {
-    let mut c = k;
-    while c < n {
+    for c in k..n {
         buf[c] = buf[c - k];
-        c += 1;
     }
 }
 
-// The pattern's eight bytes from p, again and again, to n bytes of a buffer.
+// The pattern's eight bytes from p, again and again, to n bytes of a buffer, if the pattern is used.
 fn tile(mem: &[u8], buf: &mut [u8], used: bool, p: usize, n: usize)
-    requires p_in_bounds { used ≡ true → p + 8 ≤ length mem.now }
-    requires in_bounds { (16 ≤ length buf.old) × (n ≤ length buf.old) }
+    requires pattern_in_memory { used ≡ true → p + 8 ≤ length mem.now }
+    requires room { (16 ≤ length buf.old) × (n ≤ length buf.old) }
     ensures { used ≡ true → (x : ℕ) → x < n → get_or buf.new x 0 ≡ get_or mem.now (p + x % 8) 0 }
 {
     if !used {
         return;
     }
-    let mut row = [0u8; 8];
-    take(mem, &mut row, p, 8);
-    put(buf, &row, 0, 8);
-    put(buf, &row, 8, 8);
+    copy(buf, 0, mem, p, 8);
+    copy(buf, 8, mem, p, 8);
     spread(buf, 16, least(n, 64));
     spread(buf, 64, n);
-}
-
-// A line of code CCh, by way of a buffer.
-fn copy(mem: &mut [u8], d: usize, s: usize, w: usize)
-    requires { (d + w ≤ length mem.old) × (s + w ≤ length mem.old) × (w ≤ 8192) }
-    ensures part { Part d (bytes_from s mem.old) 0 w mem.old mem.new }
-    ensures by_index { (k : ℕ) → k < w → get_or mem.old (s + k) 0 < 256 }
-{
-    let mut buf = [0u8; 8192];
-    take(mem, &mut buf, s, w);
-    put(mem, &buf, d, w);
-}
-
-// No byte of the source is written before it is read.
-fn source_still(left: bool, d: usize, s: usize, w: usize) -> bool
-    requires { (d + w < 2 ^ 63) × (s + w < 2 ^ 63) }
-    ensures { result ≡ true → SourceStill left d s w }
-{
-    if left {
-        return (s <= d) | (d + w <= s);
-    }
-    (d <= s) | (s + w <= d)
-}
-
-// The line writes none of its pattern's eight bytes, which all lie in memory, if there is a pattern.
-fn pattern_still(pattern: bool, n: usize, d: usize, p: usize, w: usize) -> bool
-    requires { (d + w < 2 ^ 63) × (p < 2 ^ 62) }
-    ensures { result ≡ true → pattern ≡ true → PatternStill n d p w }
-{
-    if !pattern {
-        return true;
-    }
-    (p + 8 <= n) & ((p + 8 <= d) | (d + w <= p))
-}
-
-// Source and destination have no byte in common, if there is a source.
-fn apart(source: bool, d: usize, s: usize, w: usize) -> bool
-    requires { (d + w < 2 ^ 63) × (s + w < 2 ^ 63) }
-    ensures { result ≡ true → source ≡ true → Apart d s w }
-{
-    !source | (d + w <= s) | (s + w <= d)
 }
 
 // How far two addresses are apart.
 fn gap(a: usize, b: usize) -> usize
     ensures { (a ≤ b → a + result ≡ b) × (b ≤ a → b + result ≡ a) }
 {
-    if a < b { b - a } else { a - b }
-}
-
-// The raster bytes of a line, by way of a copy of its source.
-fn piece(
-    mem: &mut [u8],
-    pat: &mut [u8],
-    src: &mut [u8],
-    code: u8,
-    pattern: bool,
-    d: usize,
-    s: usize,
-    p: usize,
-    w: usize,
-)
-    requires w_in_bounds { (d + w ≤ length mem.old) × (s + w ≤ length mem.old) × (w < 2 ^ 62) }
-    requires w_in_bounds_2 { (w + 8 ≤ length pat.old) × (16 ≤ length pat.old) × (w ≤ length src.old) }
-    requires p_in_bounds { pattern ≡ true → p + 8 ≤ length mem.old }
-    ensures { Part d (becomes code true pattern d s p mem.old) 0 w mem.old mem.new }
-{
-    tile(mem, pat, pattern, p, d % 8 + w);
-    take(mem, src, s, w);
-    blend_copied(mem, pat, src, code, pattern, d, d % 8, w);
+    a.abs_diff(b)
 }
 
 // Where n bytes begin that follow the first c of a line.
@@ -335,104 +206,171 @@ fn piece_low(left: bool, w: usize, c: usize, n: usize) -> usize
     if left { w - c - n } else { c }
 }
 
-// A line that reads what it wrote k bytes before, k bytes at a time.
-fn pieces(
-    mem: &mut [u8],
-    pat: &mut [u8],
-    src: &mut [u8],
-    code: u8,
-    pattern: bool,
-    left: bool,
-    d: usize,
-    s: usize,
-    p: usize,
-    w: usize,
-    k: usize,
-)
-    requires w_in_bounds { (d + w ≤ length mem.old) × (s + w ≤ length mem.old) × (length mem.old < 2 ^ 62) × (1 ≤ k) }
-    requires w_in_bounds_2 { (w + 8 ≤ length pat.old) × (16 ≤ length pat.old) × (w ≤ length src.old) }
-    requires pattern_still { pattern ≡ true → PatternStill (length mem.old) d p w }
-    requires source_still { SourceStill left d s k }
-    ensures { mem.new ≡ in_turn w (line_byte code (uses_source code) pattern left d s p w) mem.old }
-{
-    let mut c = 0;
-    while c < w {
-        let n = least(w - c, k);
-        let o = piece_low(left, w, c, n);
-        piece(mem, pat, src, code, pattern, d + o, s + o, p, n);
-        c += n;
+// What is done with a line. The memory and the two buffers stay parameters of their own: of the bytes of a slice that is lent
+// through a field nothing is known.
+impl Line {
+    // Whether the code looks at a source, and at a pattern.
+    fn source(self) -> bool
+        ensures { result ≡ uses_source self.code }
+    {
+        blit_raster::uses_source(self.code)
     }
-}
 
-// A line that reads nothing that it has written, by the quickest way.
-fn still_line(
-    mem: &mut [u8],
-    pat: &mut [u8],
-    src: &mut [u8],
-    code: u8,
-    source: bool,
-    pattern: bool,
-    d: usize,
-    s: usize,
-    p: usize,
-    w: usize,
-)
-    requires w_in_bounds { (d + w ≤ length mem.old) × (s + w ≤ length mem.old) × (length mem.old < 2 ^ 62) × (w ≤ 8191) }
-    requires w_in_bounds_2 { (w + 8 ≤ length pat.old) × (16 ≤ length pat.old) × (w ≤ length src.old) }
-    requires p_in_bounds { pattern ≡ true → p + 8 ≤ length mem.old }
-    requires source_value { (source ≡ uses_source code) × (source ≡ false → s ≡ d) }
-    ensures { Part d (becomes code source pattern d s p mem.old) 0 w mem.old mem.new }
-{
-    if code == 0xCC {
-        copy(mem, d, s, w);
-        return;
+    fn pattern(self) -> bool
+        ensures { result ≡ uses_pattern self.code }
+    {
+        blit_raster::uses_pattern(self.code)
     }
-    if !apart(source, d, s, w) {
-        piece(mem, pat, src, code, pattern, d, s, p, w);
-        return;
-    }
-    if pattern {
-        tile(mem, pat, true, p, d % 8 + w);
-        blend_filled(mem, pat, code, source, d, s, d % 8, w);
-        return;
-    }
-    blend_known(mem, code, d, s, w);
-}
 
-// A line, by the quickest way that it allows.
-fn line(
-    mem: &mut [u8],
-    pat: &mut [u8],
-    src: &mut [u8],
-    code: u8,
-    source: bool,
-    pattern: bool,
-    left: bool,
-    d: usize,
-    s: usize,
-    p: usize,
-    w: usize,
-)
-    requires w_in_bounds { (d + w ≤ length mem.old) × (s + w ≤ length mem.old) × (length mem.old < 2 ^ 62) × (p < 2 ^ 62) × (w ≤ 8191) }
-    requires w_in_bounds_2 { (w + 8 ≤ length pat.old) × (16 ≤ length pat.old) × (w ≤ length src.old) }
-    requires by_index { (c : ℕ) → c < w → p + byte_at left d w c % 8 < length mem.old }
-    requires source_value { (source ≡ uses_source code) × (source ≡ false → s ≡ d) }
-    ensures { mem.new ≡ in_turn w (line_byte code source pattern left d s p w) mem.old }
-{
-    if !pattern_still(pattern, mem.len(), d, p, w) {
-        one_by_one(mem, code, source, pattern, left, d, s, p, w);
-        return;
+    // No byte of the source is written before it is read. The tests are joined with `|`, here and below: with `||` narrow lines
+    // are copied a tenth slower.
+    fn source_still(self) -> bool
+        requires { (self.d + self.w < 2 ^ 63) × (self.s + self.w < 2 ^ 63) }
+        ensures { result ≡ true → SourceStill self.left self.d self.s self.w }
+    {
+        if self.left {
+            return (self.s <= self.d) | (self.d + self.w <= self.s);
+        }
+        (self.d <= self.s) | (self.s + self.w <= self.d)
     }
-    if source_still(left, d, s, w) {
-        still_line(mem, pat, src, code, source, pattern, d, s, p, w);
-        return;
+
+    // The line writes none of its pattern's eight bytes, which all lie in the n bytes of memory, if there is a pattern.
+    fn pattern_still(self, n: usize) -> bool
+        requires { (self.d + self.w < 2 ^ 63) × (self.p < 2 ^ 62) }
+        ensures { result ≡ true → uses_pattern self.code ≡ true → PatternStill n self.d self.p self.w }
+    {
+        if !self.pattern() {
+            return true;
+        }
+        (self.p + 8 <= n) & ((self.p + 8 <= self.d) | (self.d + self.w <= self.p))
     }
-    let k = gap(d, s);
-    if k < 32 {
-        one_by_one(mem, code, source, pattern, left, d, s, p, w);
-        return;
+
+    // Source and destination have no byte in common, if there is a source.
+    fn apart(self) -> bool
+        requires { (self.d + self.w < 2 ^ 63) × (self.s + self.w < 2 ^ 63) }
+        ensures { result ≡ true → uses_source self.code ≡ true → Apart self.d self.s self.w }
+    {
+        !self.source() | (self.d + self.w <= self.s) | (self.s + self.w <= self.d)
     }
-    pieces(mem, pat, src, code, pattern, left, d, s, p, w, k);
+
+    // Byte by byte in its direction: right whatever overlaps. A call of its own would have the line in memory, and narrow lines
+    // would be a seventh slower.
+    #[inline(always)]
+    fn one_by_one(self, mem: &mut [u8])
+        requires lies_in { LiesIn (length mem.old) self }
+        requires pattern_in { PatternIn (length mem.old) self }
+        ensures { mem.new ≡ in_turn self.w (byte_of self) mem.old }
+    {
+        let source = self.source();
+        let pattern = self.pattern();
+        for c in 0..self.w {
+            let i = byte_at(self.left, self.d, self.w, c);
+            let j = byte_at(self.left, self.s, self.w, c);
+            let pb = fetch(mem, pattern, self.p + i % 8);
+            let sb = fetch(mem, source, j);
+            mem[i] = blit_raster::raster_byte(self.code, pb, sb, mem[i]);
+        }
+    }
+
+    // A line of code CCh, by way of a buffer.
+    fn move_whole(self, mem: &mut [u8])
+        requires lies_in { LiesIn (length mem.old) self }
+        requires narrow { self.w ≤ 8192 }
+        ensures moved { Part self.d (bytes_from self.s mem.old) 0 self.w mem.old mem.new }
+        ensures bytes { (k : ℕ) → k < self.w → get_or mem.old (self.s + k) 0 < 256 }
+    {
+        let mut buf = [0u8; 8192];
+        copy(&mut buf, 0, mem, self.s, self.w);
+        copy(mem, self.d, &buf, 0, self.w);
+    }
+
+    // The raster bytes, by way of a copy of the source. Inlined for the same reason.
+    #[inline(always)]
+    fn piece(self, mem: &mut [u8], pat: &mut [u8], src: &mut [u8])
+        requires lies_in { LiesIn (length mem.old) self }
+        requires room { Room self.w pat.old src.old }
+        requires pattern_whole { uses_pattern self.code ≡ true → self.p + 8 ≤ length mem.old }
+        ensures { Part self.d (becomes_of self mem.old) 0 self.w mem.old mem.new }
+    {
+        tile(mem, pat, self.pattern(), self.p, self.d % 8 + self.w);
+        copy(src, 0, mem, self.s, self.w);
+        blend_copied(mem, pat, src, self.code, self.d, self.d % 8, self.w);
+    }
+
+    // A line that reads what it wrote k bytes before, k bytes at a time.
+    fn pieces(self, mem: &mut [u8], pat: &mut [u8], src: &mut [u8], k: usize)
+        requires lies_in { LiesIn (length mem.old) self }
+        requires room { Room self.w pat.old src.old }
+        requires pattern_still { uses_pattern self.code ≡ true → PatternStill (length mem.old) self.d self.p self.w }
+        requires source_still { SourceStill self.left self.d self.s k }
+        requires some { 1 ≤ k }
+        ensures { mem.new ≡ in_turn self.w (byte_of self) mem.old }
+    {
+        let mut c = 0;
+        // Not a `for`: it counts by pieces, of which the last is shorter, and `step_by` leaves the goal that it ends.
+        while c < self.w {
+            let n = least(self.w - c, k);
+            let o = piece_low(self.left, self.w, c, n);
+            let next = Line {
+                code: self.code,
+                left: self.left,
+                d: self.d + o,
+                s: self.s + o,
+                p: self.p,
+                w: n,
+            };
+            next.piece(mem, pat, src);
+            c += n;
+        }
+    }
+
+    // A line that reads nothing that it has written, by the quickest way.
+    fn still(self, mem: &mut [u8], pat: &mut [u8], src: &mut [u8])
+        requires lies_in { LiesIn (length mem.old) self }
+        requires room { Room self.w pat.old src.old }
+        requires pattern_whole { uses_pattern self.code ≡ true → self.p + 8 ≤ length mem.old }
+        requires narrow { self.w ≤ 8191 }
+        ensures { Part self.d (becomes_of self mem.old) 0 self.w mem.old mem.new }
+    {
+        if self.code == 0xCC {
+            self.move_whole(mem);
+            return;
+        }
+        if !self.apart() {
+            self.piece(mem, pat, src);
+            return;
+        }
+        if self.pattern() {
+            tile(mem, pat, true, self.p, self.d % 8 + self.w);
+            blend_filled(mem, pat, self.code, self.d, self.s, self.d % 8, self.w);
+            return;
+        }
+        blend_plain(mem, pat, self.code, self.d, self.s, self.w);
+    }
+
+    // The line, by the quickest way that it allows.
+    fn done(self, mem: &mut [u8], pat: &mut [u8], src: &mut [u8])
+        requires lies_in { LiesIn (length mem.old) self }
+        requires pattern_in { PatternIn (length mem.old) self }
+        requires room { Room self.w pat.old src.old }
+        requires narrow { self.w ≤ 8191 }
+        ensures { mem.new ≡ in_turn self.w (byte_of self) mem.old }
+    {
+        if !self.pattern_still(mem.len()) {
+            self.one_by_one(mem);
+            return;
+        }
+        if self.source_still() {
+            self.still(mem, pat, src);
+            return;
+        }
+        let k = gap(self.d, self.s);
+        if k < 32 {
+            self.one_by_one(mem);
+            return;
+        }
+        self.pieces(mem, pat, src, k);
+    }
 }
 
 // ---- The lines of a transfer, each from where the lowest one lies.
@@ -482,49 +420,55 @@ fn pattern_low(t: Transfer, pattern: bool, r: usize) -> usize
     0
 }
 
-// Line r, where the lowest line lies at dlow and its source at slow.
-fn one_line(
-    mem: &mut [u8],
-    pat: &mut [u8],
-    src: &mut [u8],
+// A transfer, with where its lowest line lies and that line's source.
+#[derive(Clone, Copy)]
+struct Lines {
     t: Transfer,
-    source: bool,
-    pattern: bool,
     dlow: usize,
     slow: usize,
-    r: usize,
-)
-    requires t_value { accepted (length mem.old) t ≡ true }
-    requires width_in_bounds { (t.width + 8 ≤ length pat.old) × (16 ≤ length pat.old) × (t.width ≤ length src.old) }
-    requires source_value { (source ≡ uses_source t.code) × (pattern ≡ uses_pattern t.code) × (r < t.height) }
-    requires dlow_value { (dlow ≡ line_low t t.destination (lines_below t 0)) × (slow ≡ source_low t (lines_below t 0)) }
-    ensures { mem.new ≡ line_done t r mem.old }
-{
-    let k = lines_below(t.upward, t.height, r);
-    let d = low_above(dlow, t.destination.span, k);
-    let s = low_above(slow, source_span(t, source), k);
-    let p = pattern_low(t, pattern, r);
-    line(
-        mem, pat, src, t.code, source, pattern, t.leftward, d, s, p, t.width,
-    );
+    ghost destination_lowest: { dlow ≡ line_low t t.destination (lines_below t 0) },
+    ghost source_lowest: { slow ≡ source_low t (lines_below t 0) },
+}
+
+impl Lines {
+    // Line r.
+    fn one(self, mem: &mut [u8], pat: &mut [u8], src: &mut [u8], r: usize)
+        requires accepted { accepted (length mem.old) self.t ≡ true }
+        requires room { Room self.t.width pat.old src.old }
+        requires in_height { r < self.t.height }
+        ensures { mem.new ≡ line_done self.t r mem.old }
+    {
+        let t = self.t;
+        let source = blit_raster::uses_source(t.code);
+        let pattern = blit_raster::uses_pattern(t.code);
+        let k = lines_below(t.upward, t.height, r);
+        let d = low_above(self.dlow, t.destination.span, k);
+        let s = low_above(self.slow, source_span(t, source), k);
+        let p = pattern_low(t, pattern, r);
+        let line = Line {
+            code: t.code,
+            left: t.leftward,
+            d,
+            s,
+            p,
+            w: t.width,
+        };
+        line.done(mem, pat, src);
+    }
 }
 
 // The lines, one after the other.
 fn all_lines(mem: &mut [u8], pat: &mut [u8], src: &mut [u8], t: Transfer)
-    requires t_value { accepted (length mem.old) t ≡ true }
-    requires width_in_bounds { (t.width + 8 ≤ length pat.old) × (16 ≤ length pat.old) × (t.width ≤ length src.old) }
+    requires accepted { accepted (length mem.old) t ≡ true }
+    requires room { Room t.width pat.old src.old }
     ensures { mem.new ≡ lines_done t mem.old }
 {
-    let source = blit_raster::uses_source(t.code);
-    let pattern = blit_raster::uses_pattern(t.code);
-    let h = t.height;
-    let lowest = lines_below(t.upward, h, 0);
+    let lowest = lines_below(t.upward, t.height, 0);
     let dlow = line_low(t, t.destination, lowest);
-    let slow = source_low(t, source, lowest, dlow);
-    let mut r = 0;
-    while r < h {
-        one_line(mem, pat, src, t, source, pattern, dlow, slow, r);
-        r += 1;
+    let slow = source_low(t, blit_raster::uses_source(t.code), lowest, dlow);
+    let lines = Lines { t, dlow, slow };
+    for r in 0..t.height {
+        lines.one(mem, pat, src, r);
     }
 }
 

@@ -10,7 +10,8 @@ use lib.Dec.{leb, ltb, eqb}
 use borrow.Author.Tests.{le-leb, lt-leb, lt-ltb, le-ltb, leb-true, leb-false, ltb-true, ltb-false}
 use Rattle.lists.specs.Scan.{every}
 use Rattle.lists.proofs.Scan.{every_all, every_false}
-use Rattle.lists.proofs.Tests.{and_both, both_and}
+use Rattle.std.proofs.lemmas.Bool.{and_parts}
+use Rattle.std.specs.Cmp.Derive.{both_true}
 use Rattle.blit_raster.specs.Raster.{uses_source, uses_pattern}
 use Rattle.blit_frame.specs.declared.Area.{Area}
 use Rattle.blit_frame.specs.declared.Transfer.{Transfer}
@@ -64,7 +65,7 @@ module _ (n : ℕ) (t : Transfer) (a : Area) (hw : 1 ≤ t.width) (hh : 1 ≤ t.
       let p4 : cond t.upward (r * a.span) 0 ≤ cond t.upward (H * a.span) 0 = cond_mono t.upward (r * a.span) 0 (H * a.span) 0 m (le_refl 0) in
       let lo : behind t a r c ≤ a.address + ahead t a r c = omega arith in
       let hi : place t a r c < n = omega arith in
-      both_and (le-leb _ _ lo) (lt-ltb _ _ hi))
+      both_true (le-leb _ _ lo) (lt-ltb _ _ hi))
 
   below_zero : a.address < behind t a H W → every_byte t (within n t a) ≡ false
   below_zero l =
@@ -103,6 +104,13 @@ module _ (n : ℕ) (t : Transfer) (a : Area) (hw : 1 ≤ t.width) (hh : 1 ≤ t.
       (λ e. ap (λ (x : Bool). x && ltb (a.address + ahead t a H W) n) e ∙ sym (below_zero (leb-false _ _ e)))
       (both_ways (leb (behind t a H W) a.address))
 
+  -- the test of one of them, where the other has passed, and where it has not
+  pub outermost_ahead : behind t a H W ≤ a.address → ltb (a.address + ahead t a H W) n ≡ every_byte t (within n t a)
+  outermost_ahead h = rw (← outermost, le-leb _ _ h)
+
+  pub outermost_behind : a.address < behind t a H W → leb (behind t a H W) a.address ≡ every_byte t (within n t a)
+  outermost_behind h = lt-leb _ _ h ∙ sym (below_zero h)
+
 -- ---- a line of an area in memory
 
 first_back : (l u : Bool) (a x : ℕ) → cond l 0 0 + cond u x 0 ≤ a + (cond l 0 0 + cond u 0 x) → cond u x 0 ≤ a
@@ -130,7 +138,7 @@ low_fits false low w n h k = omega arith
 
 module _ (n : ℕ) (t : Transfer) (a : Area) (hw : 1 ≤ t.width) (in_memory : every_byte t (within n t a) ≡ true) (r : ℕ) (hr : r < t.height) where
   at : (c : ℕ) → c < t.width → (leb (behind t a r c) (a.address + ahead t a r c) ≡ true) × (ltb (place t a r c) n ≡ true)
-  at c hc = and_both _ _ (bytes-at t (within n t a) r c hr hc in_memory)
+  at c hc = and_parts _ _ (bytes-at t (within n t a) r c hr hc in_memory)
 
   low : (c : ℕ) → c < t.width → behind t a r c ≤ a.address + ahead t a r c
   low c hc = leb-true _ _ (at c hc).0
@@ -195,12 +203,12 @@ module _ (n : ℕ) (t : Transfer) (hw : 1 ≤ t.width) (in_memory : every_byte t
 all_seven : (a b c d e f g : Bool) → a && b && c && d && e && f && g ≡ true
     → (a ≡ true) × (b ≡ true) × (c ≡ true) × (d ≡ true) × (e ≡ true) × (f ≡ true)
 all_seven a b c d e f g h =
-    let h6 = (and_both _ g h).0 in
-    let h5 = and_both _ f h6 in
-    let h4 = and_both _ e h5.0 in
-    let h3 = and_both _ d h4.0 in
-    let h2 = and_both _ c h3.0 in
-    let h1 = and_both a b h2.0 in
+    let h6 = (and_parts _ g h).0 in
+    let h5 = and_parts _ f h6 in
+    let h4 = and_parts _ e h5.0 in
+    let h3 = and_parts _ d h4.0 in
+    let h2 = and_parts _ c h3.0 in
+    let h1 = and_parts a b h2.0 in
     (h1.0, h1.1, h2.1, h3.1, h4.1, h5.1)
 
 pub ranges : (t : Transfer) → in_range t ≡ true → Ranges t
@@ -220,7 +228,7 @@ ranges t e =
 module _ (n : ℕ) (t : Transfer) (h : is_in_memory n t ≡ true) where
   first_two : (every_byte t (within n t t.destination) ≡ true) × (not (uses_source t.code) || every_byte t (within n t t.source) ≡ true)
   unfolding is_in_memory
-  first_two = and_both _ _ (and_both _ _ h).0
+  first_two = and_parts _ _ (and_parts _ _ h).0
 
   pub destination_in : every_byte t (within n t t.destination) ≡ true
   destination_in = first_two.0
@@ -230,7 +238,7 @@ module _ (n : ℕ) (t : Transfer) (h : is_in_memory n t ≡ true) where
 
   pub pattern_in : uses_pattern t.code ≡ true → every_byte t (λ r c. ltb (pattern_place t r c) n) ≡ true
   unfolding is_in_memory
-  pattern_in = if_so (uses_pattern t.code) _ (and_both (every_byte t (within n t t.destination) && (not (uses_source t.code) || every_byte t (within n t t.source))) _ h).1
+  pattern_in = if_so (uses_pattern t.code) _ (and_parts (every_byte t (within n t t.destination) && (not (uses_source t.code) || every_byte t (within n t t.source))) _ h).1
 
 -- an address moved is at most both together
 pub moved_most : (b : Bool) (a x : ℕ) → moved b a x ≤ a + x
@@ -255,7 +263,7 @@ module _ (n : ℕ) (t : Transfer) (a : Area) (hw : 1 ≤ t.width) (hh : 1 ≤ t.
       start false false = omega arith
 
   pub begins_in : every_byte t (within n t a) ≡ true → a.address < n
-  begins_in e = rw first-place at (ltb-true (place t a 0 0) n (and_both (leb (behind t a 0 0) (a.address + ahead t a 0 0)) _ (bytes-at t (within n t a) 0 0 hh hw e)).1)
+  begins_in e = rw first-place at (ltb-true (place t a 0 0) n (and_parts (leb (behind t a 0 0) (a.address + ahead t a 0 0)) _ (bytes-at t (within n t a) 0 0 hh hw e)).1)
 
   pub begins-out : n ≤ a.address → every_byte t (within n t a) ≡ false
   begins-out h =

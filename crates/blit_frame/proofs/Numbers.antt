@@ -12,11 +12,11 @@ use Rattle.lists.specs.Scan.{first_not, every}
 use Rattle.lists.proofs.Scan.{first_le, end_first, first_fails, every_all, every-at, every_false}
 use Rattle.blit_raster.specs.Raster.{uses_source, uses_pattern}
 use Rattle.blit_frame.specs.declared.Transfer.{Transfer}
-use Rattle.memory.specs.declared.Answer.TheVariants.{Done, Refused}
 use Rattle.memory.specs.declared.Refusal.{Refusal}
 use Rattle.memory.specs.declared.Refusal.TheVariants.{Length, Range, Outside}
 use Rattle.memory.specs.Memory.{length_allowed, answer_number, refusal_number}
 use Rattle.blit_frame.specs.Frame.{pattern_place, in_range, every_byte, within, is_in_memory, accepted, judged, judged_number}
+use Rattle.std.specs.Prelude.{Ok, Err}
 
 -- ---- a test of every byte
 
@@ -112,7 +112,7 @@ zero_exactly true false i = (λ e. absurd (eqb-false 5 0 refl e), λ e. absurd (
 zero_exactly true true false = (λ e. absurd (eqb-false 4 0 refl e), λ e. absurd (false≢true e))
 zero_exactly true true true = (λ e. refl, λ e. refl)
 
-numbered : (l r i : Bool) → answer_number (cond l (cond r (cond i Done (Refused Outside)) (Refused Range)) (Refused Length)) ≡ number l r i
+numbered : (l r i : Bool) → answer_number (cond l (cond r (cond i (Ok tt) (Err Outside)) (Err Range)) (Err Length)) ≡ number l r i
 unfolding number
 numbered false r i = refl
 numbered true false i = refl
@@ -154,15 +154,15 @@ module _ (n : ℕ) (t : Transfer) where
   number_0_exactly = zero_exactly (length_allowed n) (in_range t) (is_in_memory n t)
 
   -- a transfer that is done is accepted
-  pub done-accepted : judged n t ≡ Done → accepted n t ≡ true
+  pub done-accepted : judged n t ≡ Ok tt → accepted n t ≡ true
   done-accepted e = number_0_exactly.0 (sym judged-number ∙ ap answer_number e)
 
   -- and one that is refused is not
-  pub refused_unaccepted : (why : Refusal) → judged n t ≡ Refused why → accepted n t ≡ false
+  pub refused_unaccepted : (why : Refusal) → judged n t ≡ Err why → accepted n t ≡ false
   unfolding judged
   refused_unaccepted why = by (length_allowed n) (in_range t) (is_in_memory n t)
     where
-      by : (l r i : Bool) → cond l (cond r (cond i Done (Refused Outside)) (Refused Range)) (Refused Length) ≡ Refused why → l && r && i ≡ false
+      by : (l r i : Bool) → cond l (cond r (cond i (Ok (tt {0})) (Err Outside)) (Err Range)) (Err Length) ≡ Err why → l && r && i ≡ false
       by false r i e = refl
       by true false i e = refl
       by true true false e = refl

@@ -1,15 +1,14 @@
 -- The places of a block transfer's bytes, and when it is done: document 01, "Video memory and block transfers", and 3, 5 and 4 of
 -- "Numbers returned". What is done to the bytes is crate blit's; the raster code is the crate blit_raster's.
 -- An address that runs below 0 stays a natural number: what is added to it and what is taken away are kept apart.
-use Rattle.std.specs.Prelude.{ℕ, ◌+◌, ◌-◌, ◌*◌, ◌%◌, Bool, cond, not, ◌&&◌, ◌||◌, leb, ltb, eqb}
+use Rattle.std.specs.Prelude.{ℕ, ◌+◌, ◌-◌, ◌*◌, ◌%◌, Bool, cond, not, ◌&&◌, ◌||◌, leb, ltb, eqb, Result, Ok, Err}
 use Rattle.lists.specs.Scan.{every}
 use Rattle.blit_raster.specs.Raster.{uses_source, uses_pattern}
 use Rattle.memory.specs.Memory.{length_allowed}
-use Rattle.memory.specs.declared.Answer.{Answer}
-use Rattle.memory.specs.declared.Answer.TheVariants.{Done, Refused}
 use Rattle.memory.specs.declared.Refusal.TheVariants.{Length, Range, Outside}
 use Rattle.blit_frame.specs.declared.Area.{Area}
 use Rattle.blit_frame.specs.declared.Transfer.{Transfer}
+use Rattle.memory.specs.declared.Refusal.{Refusal}
 
 -- ---- where the bytes lie
 
@@ -59,8 +58,8 @@ abbrev pub accepted : ℕ → Transfer → Bool
 accepted n t = length_allowed n && in_range t && is_in_memory n t
 
 -- what a transfer answers in a memory of n bytes: 3 goes before 5, and 5 before 4
-unfoldable pub judged : ℕ → Transfer → Answer
-judged n t = cond (length_allowed n) (cond (in_range t) (cond (is_in_memory n t) Done (Refused Outside)) (Refused Range)) (Refused Length)
+unfoldable pub judged : ℕ → Transfer → Result (Unit {0}) Refusal
+judged n t = cond (length_allowed n) (cond (in_range t) (cond (is_in_memory n t) (Ok tt) (Err Outside)) (Err Range)) (Err Length)
 
 -- the same in document 01's numbers
 unfoldable pub judged_number : ℕ → Transfer → ℕ

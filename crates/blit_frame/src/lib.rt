@@ -11,7 +11,7 @@ ghost use Rattle.memory.specs.Memory.{answer_number};
 ghost use Rattle.blit_frame.specs.Frame.{in_range, is_in_memory, every_byte, within, pattern_place, judged, judged_number};
 ghost use Rattle.blit_frame.specs.Lines.{Ranges, Missing, moved, low_of, pattern_low};
 
-use memory::{Answer, Refusal, length_allowed};
+use memory::{Refusal, length_allowed};
 
 // Where a transfer's destination or source begins, and how far its lines are apart.
 #[derive(Clone, Copy)]
@@ -36,25 +36,11 @@ pub struct Transfer {
 
 // ---- Small arithmetic.
 
-// x if b, else y.
-fn choose(b: bool, x: usize, y: usize) -> usize
-    ensures { (result ≡ cond b x y) × (result ≤ x + y) }
-{
-    if b { x } else { y }
-}
-
-// The lesser of two.
+// The lesser of two; public, and its clause is what callers use.
 pub fn least(a: usize, b: usize) -> usize
     ensures { (result ≤ a) × (result ≤ b) × ((x : ℕ) → x < a → x < b → x < result) }
 {
-    if a < b { a } else { b }
-}
-
-// A difference, cut off at 0.
-fn less(a: usize, b: usize) -> usize
-    ensures { result ≡ a - b }
-{
-    if a < b { 0 } else { a - b }
+    a.min(b)
 }
 
 // The low 32 bits: all of a number of an accepted transfer.
@@ -64,20 +50,12 @@ fn fold(x: usize) -> usize
     x % 4_294_967_296
 }
 
-// So many lines of a span.
-fn times(lines: usize, span: usize) -> usize
-    requires { (lines < 2 ^ 32) × (span < 2 ^ 32) }
-    ensures { (result ≡ lines * span) × (result ≤ 18446744065119617025) }
-{
-    lines * span
-}
-
-// An address moved back or ahead.
+// An address moved back, to 0 at the least, or ahead.
 fn move_by(back: bool, a: usize, x: usize) -> usize
     requires { a + x < 2 ^ 64 }
     ensures { result ≡ moved back a x }
 {
-    if back { less(a, x) } else { a + x }
+    if back { a.saturating_sub(x) } else { a + x }
 }
 
 // ---- Where a line lies.
@@ -86,141 +64,133 @@ fn move_by(back: bool, a: usize, x: usize) -> usize
 pub fn line_low(t: Transfer, a: Area, r: usize) -> usize
     ensures { result ≡ low_of t.leftward t.upward (a.address % 2 ^ 32) (a.span % 2 ^ 32) (t.width % 2 ^ 32) (r % 2 ^ 32) }
 {
-    let down = times(fold(r), fold(a.span));
+    let down = fold(r) * fold(a.span);
     let first = move_by(t.upward, fold(a.address), down);
-    let across = choose(t.leftward, less(fold(t.width), 1), 0);
-    move_by(t.leftward, first, across)
+    if t.leftward {
+        first.saturating_sub(fold(t.width).saturating_sub(1))
+    } else {
+        first
+    }
 }
 
 // The first of the pattern's eight bytes for line r.
 pub fn pattern_line(t: Transfer, r: usize) -> usize
     ensures { result ≡ pattern_low t.upward (t.pattern_address % 2 ^ 32) t.pattern_row r }
 {
-    fold(t.pattern_address) + 8 * ((t.pattern_row % 8 + choose(t.upward, 7 * (r % 8), r % 8)) % 8)
+    let rows = if t.upward { 7 * (r % 8) } else { r % 8 };
+    fold(t.pattern_address) + 8 * ((t.pattern_row % 8 + rows) % 8)
 }
 
 // ---- Whether a transfer is done.
 
 // Number 5 is for a transfer that is not.
+#[tactic(auto, unfolding(crate::specs::Frame::in_range))]
 fn in_range(t: Transfer) -> bool
     ensures { result ≡ in_range t }
 {
-    (1 <= t.width)
-        & (t.width <= 8191)
-        & (1 <= t.height)
-        & (t.height <= 8191)
-        & (t.destination.span <= 8191)
-        & (!blit_raster::uses_source(t.code) | (t.source.span <= 8191))
-        & (!blit_raster::uses_pattern(t.code)
-            | ((t.pattern_row <= 7) & (t.pattern_address % 64 == 0)))
+    1 <= t.width
+        && t.width <= 8191
+        && 1 <= t.height
+        && t.height <= 8191
+        && t.destination.span <= 8191
+        && (!blit_raster::uses_source(t.code) || t.source.span <= 8191)
+        && (!blit_raster::uses_pattern(t.code)
+            || (t.pattern_row <= 7 && t.pattern_address % 64 == 0))
 }
 
-// Every byte of an area lies in memory: the first does, and the two outermost.
-fn area_inside(n: usize, t: Transfer, a: Area) -> bool
-    requires ranges { Ranges t }
-    requires n_bound { (n ≤ 2097152) × (a.span ≤ 8191) }
-    ensures { result ≡ every_byte t (within n t a) }
-{
-    let at = a.address;
-    if n <= at {
-        return false;
-    }
-    let w = t.width - 1;
-    let h = times(t.height - 1, a.span);
-    let ahead = choose(t.leftward, 0, w) + choose(t.upward, 0, h);
-    let behind = choose(t.leftward, w, 0) + choose(t.upward, h, 0);
-    (behind <= at) & (at + ahead < n)
+// A transfer whose numbers are in range, and the length of the memory.
+#[derive(Clone, Copy)]
+struct Ranged {
+    t: Transfer,
+    n: usize,
+    ghost ranges: { Ranges t },
+    ghost small_memory: { n ≤ 2097152 },
 }
 
-// The same of the source, if there is one.
-fn source_inside(n: usize, t: Transfer) -> bool
-    requires ranges { Ranges t }
-    requires n_bound { n ≤ 2097152 }
-    ensures { result ≡ (not (uses_source t.code) || every_byte t (within n t t.source)) }
-{
-    if !blit_raster::uses_source(t.code) {
-        return true;
+impl Ranged {
+    // Every byte of an area lies in memory: the first does, and the two outermost.
+    fn area_inside(self, a: Area) -> bool
+        requires { a.span ≤ 8191 }
+        ensures { result ≡ every_byte self.t (within self.n self.t a) }
+    {
+        if self.n <= a.address {
+            return false;
+        }
+        let w = self.t.width - 1;
+        let h = (self.t.height - 1) * a.span;
+        let (left, right) = if self.t.leftward { (w, 0) } else { (0, w) };
+        let (up, down) = if self.t.upward { (h, 0) } else { (0, h) };
+        left + up <= a.address && a.address + (right + down) < self.n
     }
-    area_inside(n, t, t.source)
+
+    // The same of the source, if there is one.
+    fn source_inside(self) -> bool
+        ensures { result ≡ (not (uses_source self.t.code) || every_byte self.t (within self.n self.t self.t.source)) }
+    {
+        !blit_raster::uses_source(self.t.code) || self.area_inside(self.t.source)
+    }
+
+    // Every pattern byte that the transfer uses lies in memory, where its destination does.
+    fn pattern_inside(self) -> bool
+        requires { every_byte self.t (within self.n self.t self.t.destination) ≡ true }
+        ensures { result ≡ every_byte self.t (λ r c. ltb (pattern_place self.t r c) self.n) }
+    {
+        let t = self.t;
+        if self.n <= t.pattern_address {
+            return false;
+        }
+        if t.pattern_address + 64 <= self.n {
+            return true;
+        }
+        for r in 0..t.height {
+            let d = line_low(t, t.destination, r);
+            let p = pattern_line(t, r);
+            if !pattern_line_inside(self.n, d, p, t.width) {
+                return false;
+            }
+        }
+        true
+    }
+
+    // Number 4 is for a transfer that is not.
+    #[tactic(auto, unfolding(crate::specs::Frame::is_in_memory))]
+    fn inside(self) -> bool
+        ensures { result ≡ is_in_memory self.n self.t }
+    {
+        self.area_inside(self.t.destination)
+            && self.source_inside()
+            && (!blit_raster::uses_pattern(self.t.code) || self.pattern_inside())
+    }
 }
 
 // Every pattern byte that a line uses lies in memory.
 fn pattern_line_inside(n: usize, d: usize, p: usize, w: usize) -> bool
     requires { (d + w < 2 ^ 63) × (p < 2 ^ 63) }
-    ensures k_bound { result ≡ true → (k : ℕ) → k < w → p + (d + k) % 8 < n }
+    ensures in_memory { result ≡ true → (k : ℕ) → k < w → p + (d + k) % 8 < n }
     ensures missing { result ≡ false → Missing n d p w }
 {
-    let e = least(w, 8);
-    let mut c = 0;
-    while c < e {
+    for c in 0..w.min(8) {
         if n <= p + (d + c) % 8 {
             return false;
         }
-        c += 1;
     }
     true
-}
-
-// Every pattern byte that a transfer uses lies in memory, where its destination does.
-fn pattern_inside(n: usize, t: Transfer) -> bool
-    requires ranges { Ranges t }
-    requires n_bound { n ≤ 2097152 }
-    requires destination_value { every_byte t (within n t t.destination) ≡ true }
-    ensures { result ≡ every_byte t (λ r c. ltb (pattern_place t r c) n) }
-{
-    if n <= t.pattern_address {
-        return false;
-    }
-    if t.pattern_address + 64 <= n {
-        return true;
-    }
-    let h = t.height;
-    let w = t.width;
-    let mut r = 0;
-    while r < h {
-        let d = line_low(t, t.destination, r);
-        let p = pattern_line(t, r);
-        if !pattern_line_inside(n, d, p, w) {
-            return false;
-        }
-        r += 1;
-    }
-    true
-}
-
-// Number 4 is for a transfer that is not.
-#[tactic(auto, unfolding(crate::specs::Frame::is_in_memory))]
-fn inside(n: usize, t: Transfer) -> bool
-    requires ranges { Ranges t }
-    requires n_bound { n ≤ 2097152 }
-    ensures { result ≡ is_in_memory n t }
-{
-    if !area_inside(n, t, t.destination) {
-        return false;
-    }
-    if !source_inside(n, t) {
-        return false;
-    }
-    if !blit_raster::uses_pattern(t.code) {
-        return true;
-    }
-    pattern_inside(n, t)
 }
 
 // What a transfer answers in a memory of n bytes: 3 goes before 5, and 5 before 4.
 #[tactic(auto, unfolding(crate::specs::Frame::judged, crate::specs::Frame::judged_number))]
-pub fn judge(n: usize, t: Transfer) -> Answer
+pub fn judge(n: usize, t: Transfer) -> Result<(), Refusal>
     ensures value { result ≡ judged n t }
     ensures result_value { answer_number result ≡ judged_number n t }
 {
     if !length_allowed(n) {
-        return Answer::Refused(Refusal::Length);
+        return Err(Refusal::Length);
     }
     if !in_range(t) {
-        return Answer::Refused(Refusal::Range);
+        return Err(Refusal::Range);
     }
-    if !inside(n, t) {
-        return Answer::Refused(Refusal::Outside);
+    if !(Ranged { t, n }).inside() {
+        return Err(Refusal::Outside);
     }
-    Answer::Done
+    Ok(())
 }

@@ -43,7 +43,7 @@ pub fn raster_byte(code: u8, p: u8, s: u8, d: u8) -> u8
         | (p & (s & (d & chosen(code, 7)))) // 80: D and (P and S)
 }
 
-// Whether the code depends on the source: bits 0, 1, 4 and 5 are not bits 2, 3, 6 and 7.
+// Whether the code depends on the source, a line as of the pattern below: bits 0, 1, 4 and 5 are not bits 2, 3, 6 and 7.
 pub fn uses_source(code: u8) -> bool
     ensures { result ≡ uses_source code }
 {

@@ -19,11 +19,12 @@ use Rattle.chip.specs.Attribute.{attribute_set, attribute_aimed}
 use Rattle.chip.specs.Access.{Wrote, told, untold, write_to, port_written}
 use Rattle.chip.specs.Differ.{same_colour, differ}
 use Rattle.chip.specs.declared.Rgb.{Rgb}
-use Rattle.chip.specs.declared.access.Answer.TheVariants.{Done, Closed}
 use Rattle.chip.proofs.NameLaws.{received_keeps_colours}
 use Rattle.chip.proofs.AccessLaws.{write_closed, write_open}
 use Rattle.chip.proofs.DifferLaws.{colour_self, unmoved, reached_differs, data_differs, paldata_differs, aimed_differs_not}
 use Rattle.cases.specs.Cases.{Row, changing, rows_hold_by, rows_hold}
+use Rattle.std.specs.Prelude.{Ok, Err}
+use Rattle.chip.specs.declared.access.AccessError.TheVariants.{Closed}
 
 -- by the entry at the palette's index, and by the two bytes
 abbrev pub same_here : Chip → Chip → Bool
@@ -46,12 +47,12 @@ module _ (c : Chip) where
   by_none w e f = by_bytes w (ap (λ (n : Named). n.palette) e) (unmoved c w.chip e ∙ sym (ap not (eq-eqb _ _ f)))
 
   -- the data of an attribute register, and its index
-  by_turn : (v : ℕ) (z : Bool) → let w = cond z (told Ar (index_of Ar c.indexes) c (attribute_set c v)) (untold Done (attribute_aimed c v)) in
+  by_turn : (v : ℕ) (z : Bool) → let w = cond z (told Ar (index_of Ar c.indexes) c (attribute_set c v)) (untold (Ok tt) (attribute_aimed c v)) in
       differ c w.chip ≡ tells_change c w
   by_turn v true =
       let i : ℕ = index_of Ar c.indexes in
       by_bytes (told Ar i c (attribute_set c v)) (received_keeps_colours Ar (named c) i v) (reached_differs Ar c (attribute_set c v) v refl)
-  by_turn v false = by_bytes (untold Done (attribute_aimed c v)) refl (aimed_differs_not c v)
+  by_turn v false = by_bytes (untold (Ok tt) (attribute_aimed c v)) refl (aimed_differs_not c v)
 
   and_true : (z : Bool) → z ≡ z && true
   and_true true = refl
@@ -74,7 +75,7 @@ write_changing c p v h = go (ports_open (named c)) refl
   where
     go : (z : Bool) → ports_open (named c) ≡ z → changing c p v ≡ tells_change c (port_written c p v)
     go true free = rw (write_open c p free v) (by_target c v h (target (picks3_dx (named c)) true p))
-    go false shut = rw (write_closed c p shut v) (by_none c (untold Closed c) refl refl)
+    go false shut = rw (write_closed c p shut v) (by_none c (untold (Err Closed) c) refl refl)
 
 -- the test that computes at once
 abbrev pub quick : Chip → ℕ → ℕ → Bool

@@ -14,59 +14,49 @@ use chip::Chip;
 pub fn after_write(c: Chip, port: u16, v: u8) -> Chip
     ensures { view result ≡ (port_written (view c) port v).chip }
 {
-    let w = c.write(port, v);
-    w.chip
+    c.write(port, v).chip
 }
 
 pub fn write_number(c: Chip, port: u16, v: u8) -> u8
     ensures { result ≡ answer_number (port_written (view c) port v).answer }
 {
-    let w = c.write(port, v);
-    let answer = w.answer;
-    chip::access::number(answer)
+    chip::access::number(c.write(port, v).answer)
 }
 
 // The register's byte before a write to a port and after it, and whether the write changes a register or a colour.
 pub fn byte_before(c: Chip, port: u16, v: u8) -> u8
     ensures { result ≡ (port_written (view c) port v).before }
 {
-    let w = c.write(port, v);
-    w.before
+    c.write(port, v).before
 }
 
 pub fn byte_after(c: Chip, port: u16, v: u8) -> u8
     ensures { result ≡ (port_written (view c) port v).after }
 {
-    let w = c.write(port, v);
-    w.after
+    c.write(port, v).after
 }
 
 pub fn alters(c: Chip, port: u16, v: u8) -> bool
     ensures { result ≡ differ (view c) (port_written (view c) port v).chip }
 {
-    let w = c.write(port, v);
-    w.changed
+    c.write(port, v).changed
 }
 
 // A chip after a read of a port, the byte that the read gives, and its number.
 pub fn after_read(c: Chip, port: u16) -> Chip
     ensures { view result ≡ (port_read (view c) port).chip }
 {
-    let s = c.read(port);
-    s.chip
+    c.read(port).chip
 }
 
 pub fn byte_read(c: Chip, port: u16) -> u8
     ensures { result ≡ (port_read (view c) port).value }
 {
-    let s = c.read(port);
-    s.value
+    c.read(port).value
 }
 
 pub fn read_number(c: Chip, port: u16) -> u8
     ensures { result ≡ answer_number (port_read (view c) port).answer }
 {
-    let s = c.read(port);
-    let answer = s.answer;
-    chip::access::number(answer)
+    chip::access::number(c.read(port).answer)
 }

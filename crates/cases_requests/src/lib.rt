@@ -4,16 +4,14 @@
 ghost use Rattle.std.specs.Prelude.{◌≡◌};
 ghost use Rattle.script_writer.specs.Write.{written, of_written};
 
-use script_writer::Written;
-
 // What the writer answers for steps, with room for a block: the number, and the value.
 pub fn written_number(steps: &[u8]) -> u8
     ensures { result ≡ (of_written (written steps.now 512)).number }
 {
     let mut file = [0u8; 512];
     match script_writer::write(steps, &mut file) {
-        Written::Blocks(_) => 0,
-        Written::Refused(why) => why.number(),
+        Ok(_) => 0,
+        Err(why) => why.number(),
     }
 }
 
@@ -22,7 +20,7 @@ pub fn written_value(steps: &[u8]) -> usize
 {
     let mut file = [0u8; 512];
     match script_writer::write(steps, &mut file) {
-        Written::Blocks(n) => n,
-        Written::Refused(why) => why.value(),
+        Ok(n) => n,
+        Err(why) => why.value(),
     }
 }

@@ -18,16 +18,17 @@ use Rattle.chip.specs.Names.{register, locked, writable_at, received, ports_open
 use Rattle.chip.specs.Palette.{loaded, coloured, moved}
 use Rattle.chip.specs.Attribute.{attribute_set, attribute_aimed, turn_returned}
 use Rattle.chip.specs.Access.{write_to, read_from, port_written, port_read, untold, told, seen}
-use Rattle.chip.specs.declared.access.Answer.TheVariants.{Done, Closed}
 use Rattle.chip.proofs.NameLaws.{Bytes, received-bytes, received_keeps_bit, coloured_keeps_register, picture_keeps_register}
+use Rattle.std.specs.Prelude.{Ok, Err}
+use Rattle.chip.specs.declared.access.AccessError.TheVariants.{Closed}
 
 -- where the ports are closed nothing is read and nothing changes
 module _ (c : Chip) (p : ℕ) (shut : ports_open (named c) ≡ false) where
-  pub write_closed : (v : ℕ) → port_written c p v ≡ untold Closed c
+  pub write_closed : (v : ℕ) → port_written c p v ≡ untold (Err Closed) c
   unfolding port_written
   write_closed v = rw shut
 
-  pub read_closed : port_read c p ≡ seen Closed 0xFF c
+  pub read_closed : port_read c p ≡ seen (Err Closed) 0xFF c
   unfolding port_read
   read_closed = rw shut
 
@@ -46,7 +47,7 @@ module _ (c : Chip) (p : ℕ) (free : ports_open (named c) ≡ true) where
       → port_written c p v ≡ told g (index_of g c.indexes) c (with_named c (received g (named c) (index_of g c.indexes) v))
   write_data g v leads = write_open v ∙ rw leads refl
 
-  pub read_data : (g : Group) → target (picks3_dx (named c)) false p ≡ Data g → port_read c p ≡ seen Done (register g (named c) (index_of g c.indexes)) c
+  pub read_data : (g : Group) → target (picks3_dx (named c)) false p ≡ Data g → port_read c p ≡ seen (Ok tt) (register g (named c) (index_of g c.indexes)) c
   read_data g leads = read_open ∙ rw leads refl
 
 -- what holds of the state as it was, and of what a write makes of it at each target, holds after every port write
@@ -54,7 +55,7 @@ pub write_cases : (P : Chip → Type 0) (c : Chip) (p v : ℕ) → P c → ((t :
 unfolding port_written
 write_cases P c p v same at = go (ports_open (named c))
   where
-    go : (z : Bool) → P (cond z (write_to (target (picks3_dx (named c)) true p) c v) (untold Closed c)).chip
+    go : (z : Bool) → P (cond z (write_to (target (picks3_dx (named c)) true p) c v) (untold (Err Closed) c)).chip
     go true = at (target (picks3_dx (named c)) true p)
     go false = same
 
@@ -75,7 +76,7 @@ state_read P c p same move turn = go (ports_open (named c))
     at NotPicked = same
     at NotListed = same
 
-    go : (z : Bool) → P (cond z (read_from (target (picks3_dx (named c)) false p) c) (seen Closed 0xFF c)).chip
+    go : (z : Bool) → P (cond z (read_from (target (picks3_dx (named c)) false p) c) (seen (Err Closed) 0xFF c)).chip
     go true = at (target (picks3_dx (named c)) false p)
     go false = same
 
@@ -93,7 +94,7 @@ module _ (P : Named → Type 0) (c : Chip) (v : ℕ)
   named-loaded true = store c.loading.index c.loading.red c.loading.green v
   named-loaded false = same
 
-  named_attribute : (z : Bool) → P (named (cond z (told Ar (index_of Ar c.indexes) c (attribute_set c v)) (untold Done (attribute_aimed c v))).chip)
+  named_attribute : (z : Bool) → P (named (cond z (told Ar (index_of Ar c.indexes) c (attribute_set c v)) (untold (Ok tt) (attribute_aimed c v))).chip)
   named_attribute true = set Ar
   named_attribute false = light _
 

@@ -12,14 +12,15 @@ use Rattle.chip.specs.State.{Chip, named, join, with_picture, with_turn, index_o
 use Rattle.chip.specs.Names.{register, received, ports_open, picks3_dx}
 use Rattle.chip.specs.Attribute.{attribute_index, attribute_aimed, attribute_set, turn_returned}
 use Rattle.chip.specs.Access.{Seen, Wrote, attribute_wrote, port_written, port_read, untold, told, seen}
-use Rattle.chip.specs.declared.access.Answer.TheVariants.{Done, Unlisted}
 use Rattle.chip.proofs.AccessLaws.{write_open, read_open}
+use Rattle.std.specs.Prelude.{Ok, Err}
+use Rattle.chip.specs.declared.access.AccessError.TheVariants.{Unlisted}
 
 -- by the turn: the register at the index receives the byte, or the index is written
 pub attribute_data : (c : Chip) (v : ℕ) → c.indexes.turn ≡ true → attribute_wrote c v ≡ told Ar (index_of Ar c.indexes) c (attribute_set c v)
 attribute_data c v turn = rw turn
 
-pub attribute_index_lem : (c : Chip) (v : ℕ) → c.indexes.turn ≡ false → attribute_wrote c v ≡ untold Done (attribute_aimed c v)
+pub attribute_index_lem : (c : Chip) (v : ℕ) → c.indexes.turn ≡ false → attribute_wrote c v ≡ untold (Ok tt) (attribute_aimed c v)
 attribute_index_lem c v turn = rw turn
 
 module _ (c : Chip) (free : ports_open (named c) ≡ true) where
@@ -27,34 +28,34 @@ module _ (c : Chip) (free : ports_open (named c) ≡ true) where
   unfolding target ports
   attribute_written v = write_open c 0x3C0 free v
 
-  pub attribute_aimed_lem : (v : ℕ) → c.indexes.turn ≡ false → port_written c 0x3C0 v ≡ untold Done (attribute_aimed c v)
+  pub attribute_aimed_lem : (v : ℕ) → c.indexes.turn ≡ false → port_written c 0x3C0 v ≡ untold (Ok tt) (attribute_aimed c v)
   attribute_aimed_lem v turn = attribute_written v ∙ attribute_index_lem c v turn
 
   pub attribute_set_lem : (v : ℕ) → c.indexes.turn ≡ true → port_written c 0x3C0 v ≡ told Ar (index_of Ar c.indexes) c (attribute_set c v)
   attribute_set_lem v turn = attribute_written v ∙ attribute_data c v turn
 
-  pub attribute_index-read : port_read c 0x3C0 ≡ seen Done (attribute_index c) c
+  pub attribute_index-read : port_read c 0x3C0 ≡ seen (Ok tt) (attribute_index c) c
   unfolding target ports
   attribute_index-read = read_open c 0x3C0 free
 
-  pub attribute_data-read : port_read c 0x3C1 ≡ seen Done (register Ar (named c) (index_of Ar c.indexes)) c
+  pub attribute_data-read : port_read c 0x3C1 ≡ seen (Ok tt) (register Ar (named c) (index_of Ar c.indexes)) c
   unfolding target ports
   attribute_data-read = read_open c 0x3C1 free
 
   -- input status 1 is read at 3DAh or 3BAh, by MSR bit 0; the other port reads FFh
-  pub status_read : (b : Bool) → picks3_dx (named c) ≡ b → port_read c (cond b 0x3DA 0x3BA) ≡ seen Done 0x00 (turn_returned c)
+  pub status_read : (b : Bool) → picks3_dx (named c) ≡ b → port_read c (cond b 0x3DA 0x3BA) ≡ seen (Ok tt) 0x00 (turn_returned c)
   unfolding target ports
   status_read true picks = read_open c 0x3DA free ∙ rw picks
   status_read false picks = read_open c 0x3BA free ∙ rw picks
 
-  pub status_not_picked : (b : Bool) → picks3_dx (named c) ≡ b → port_read c (cond b 0x3BA 0x3DA) ≡ seen Done 0xFF c
+  pub status_not_picked : (b : Bool) → picks3_dx (named c) ≡ b → port_read c (cond b 0x3BA 0x3DA) ≡ seen (Ok tt) 0xFF c
   unfolding target ports
   status_not_picked true picks = read_open c 0x3BA free ∙ rw picks
   status_not_picked false picks = read_open c 0x3DA free ∙ rw picks
 
   -- the other directions are not listed
   pub attribute_not_written : (v : ℕ)
-      → (port_written c 0x3C1 v ≡ untold Unlisted c) × (port_written c 0x3BA v ≡ untold Unlisted c) × (port_written c 0x3DA v ≡ untold Unlisted c)
+      → (port_written c 0x3C1 v ≡ untold (Err Unlisted) c) × (port_written c 0x3BA v ≡ untold (Err Unlisted) c) × (port_written c 0x3DA v ≡ untold (Err Unlisted) c)
   unfolding target ports
   attribute_not_written v = (write_open c 0x3C1 free v, write_open c 0x3BA free v, write_open c 0x3DA free v)
 

@@ -3,11 +3,13 @@
 -- byte after; a stored colour where the entry is another; the picture and a read change nothing. A refused write hands back FFh
 -- twice, and a data write what a read of the register shows before it and after it.
 use Rattle.std.proofs.Common.{◌≡◌, ℕ, ◌<◌, Bool, true, false, cond, not, ◌&&◌, eqb, get_or, sym, refl, ap, ◌∙◌, true≢false, arith, eq-eqb, ne_eqb, eqb-true}
+use Rattle.std.proofs.Math.Bool.{and_assoc}
 use borrow.Author.Tests.{eqb-false}
 use Rattle.lists.specs.Bits.{is_set}
 use Rattle.lists.specs.Scan.{every}
 use Rattle.lists.proofs.Scan.{every_all, every-at}
-use Rattle.lists.proofs.Tests.{and_both, both_and}
+use Rattle.std.proofs.lemmas.Bool.{and_parts}
+use Rattle.std.specs.Cmp.Derive.{both_true}
 use Rattle.chip_registers.specs.Groups.{number_of, group_at, is}
 use Rattle.chip_registers.proofs.TableLaws.{group_numbered, number_few, is_same}
 use Rattle.chip_registers.proofs.IndexLaws.{kept_byte}
@@ -23,14 +25,15 @@ use Rattle.chip.specs.Attribute.{attribute_aimed, attribute_set}
 use Rattle.chip.specs.Access.{Wrote, answer_number, access_table, untold, told, write_to, read_from, port_written, port_read}
 use Rattle.chip.specs.Differ.{same_group, same_colour, same_stored, differ}
 use Rattle.chip.specs.declared.Rgb.{Rgb}
-use Rattle.chip.specs.declared.access.Answer.{Answer}
-use Rattle.chip.specs.declared.access.Answer.TheVariants.{Done, Closed}
 use Rattle.chip.specs.declared.Loading.{Loading}
 use Rattle.chip.proofs.Banks.{bank, place, register-bank}
 use Rattle.chip.proofs.NameLaws.{received_other, received_keeps_colours, coloured_keeps_register, picture_keeps_register}
 use Rattle.chip.proofs.PaletteLaws.{coloured_other}
 use Rattle.chip.proofs.AccessLaws.{write_closed, write_open, write_data, read_keeps_all}
 use Rattle.chip.proofs.NumberLaws.{refused, write_number}
+use Rattle.std.specs.Prelude.{Result, Ok, Err}
+use Rattle.chip.specs.declared.access.AccessError.{AccessError}
+use Rattle.chip.specs.declared.access.AccessError.TheVariants.{Closed}
 
 -- two tests that hold together are one
 as_one : (a b : Bool) → (a ≡ true → b ≡ true) → (b ≡ true → a ≡ true) → a ≡ b
@@ -41,13 +44,13 @@ as_one false false f g = refl
 -- ---- two states differ exactly where a name has another byte, or an entry another colour
 pub colour_self : (x : Rgb) → same_colour x x ≡ true
 unfolding same_colour
-colour_self x = both_and (both_and (eq-eqb x.red x.red refl) (eq-eqb x.green x.green refl)) (eq-eqb x.blue x.blue refl)
+colour_self x = both_true (both_true (eq-eqb x.red x.red refl) (eq-eqb x.green x.green refl)) (eq-eqb x.blue x.blue refl)
 
 pub colour_same : (x y : Rgb) → same_colour x y ≡ true → x ≡ y
 unfolding same_colour
 colour_same x y e =
-    let (rg, b) = and_both (eqb x.red y.red && eqb x.green y.green) (eqb x.blue y.blue) e in
-    let (r, g) = and_both (eqb x.red y.red) (eqb x.green y.green) rg in
+    let (rg, b) = and_parts (eqb x.red y.red && eqb x.green y.green) (eqb x.blue y.blue) e in
+    let (r, g) = and_parts (eqb x.red y.red) (eqb x.green y.green) rg in
     ap (λ (v : ℕ). rgb v x.green x.blue) (eqb-true _ _ r) ∙ ap (λ (v : ℕ). rgb y.red v x.blue) (eqb-true _ _ g)
     ∙ ap (λ (v : ℕ). rgb y.red y.green v) (eqb-true _ _ b)
 
@@ -58,7 +61,7 @@ pub record Same (a b : Named) : Type 0 where
 pub same-stored : (a b : Named) → Same a b → same_stored a b ≡ true
 unfolding same_stored same_group
 same-stored a b s =
-    both_and (every_all (λ k. same_group a b (group_at k)) 0 9 (λ k _ h. groups (group_at k)))
+    both_true (every_all (λ k. same_group a b (group_at k)) 0 9 (λ k _ h. groups (group_at k)))
     (every_all (λ e. same_colour (entry a e) (entry b e)) 0 256 (λ e _ h. ap (same_colour (entry a e)) (sym (s.colours e (omega arith))) ∙ colour_self (entry a e)))
   where
     groups : (g : Group) → same_group a b g ≡ true
@@ -67,7 +70,7 @@ same-stored a b s =
 pub stored_same : (a b : Named) → same_stored a b ≡ true → Same a b
 unfolding same_stored same_group
 stored_same a b e =
-    let (gs, cs) = and_both (every (λ k. same_group a b (group_at k)) 0 9) (every (λ k. same_colour (entry a k) (entry b k)) 0 256) e in
+    let (gs, cs) = and_parts (every (λ k. same_group a b (group_at k)) 0 9) (every (λ k. same_colour (entry a k) (entry b k)) 0 256) e in
     record {
       registers = λ g i h.
           let whole : same_group a b g ≡ true =
@@ -165,6 +168,11 @@ pub data_differs : (g : Group) (c : Chip) (v : ℕ)
     → differ c (write_to (Data g) c v).chip ≡ not (eqb (write_to (Data g) c v).before (write_to (Data g) c v).after)
 data_differs g c v = reached_differs g c (write_to (Data g) c v).chip v refl
 
+-- what `==` of two colours is
+pub colours-same : (x y : Rgb) → (eqb x.red y.red && (eqb x.green y.green && eqb x.blue y.blue)) ≡ same_colour x y
+unfolding same_colour
+colours-same x y = sym (and_assoc (eqb x.red y.red) (eqb x.green y.green) (eqb x.blue y.blue))
+
 -- so does a byte to PALDATA where the entry at the index does
 pub paldata_differs : (c : Chip) (v e : ℕ) → c.loading.index ≡ e → e < 256
     → differ c (write_to Paldata c v).chip ≡ not (same_colour (entry (named c) e) (entry (named (write_to Paldata c v).chip) e))
@@ -180,7 +188,7 @@ unfolding differ
 aimed_differs_not c v = rw (picture_same_stored (named c) (is_set 5 v))
 
 -- a write that tells of nothing and leaves what has a name, as a contract says it
-pub quiet : {w : Wrote} {b : Bool} {a : Answer} {k d : Chip} (c : Chip) → w ≡ untold a k → b ≡ false → k ≡ d → named d ≡ named c
+pub quiet : {w : Wrote} {b : Bool} {a : Result (Unit {0}) AccessError} {k d : Chip} (c : Chip) → w ≡ untold a k → b ≡ false → k ≡ d → named d ≡ named c
     → (w ≡ untold a d) × (b ≡ differ c d)
 quiet {a = a} {d = d} c u f e n = (u ∙ ap (untold a) e, f ∙ sym (unmoved c d n))
 
@@ -211,7 +219,7 @@ target_differs Paldata c v other = absurd (other refl)
 target_differs Attribute c v other = go c.indexes.turn other
   where
     by : Bool → Wrote
-    by z = cond z (told Ar (index_of Ar c.indexes) c (attribute_set c v)) (untold Done (attribute_aimed c v))
+    by z = cond z (told Ar (index_of Ar c.indexes) c (attribute_set c v)) (untold (Ok tt) (attribute_aimed c v))
 
     go : (z : Bool) → ((by z).before ≡ (by z).after → ⊥) → differ c (by z).chip ≡ true
     go true h = reached_differs Ar c (attribute_set c v) v refl ∙ ap not (ne_eqb _ _ h)
@@ -225,7 +233,7 @@ unfolding port_written
 told_differs c p v other = go (ports_open (named c)) other
   where
     by : Bool → Wrote
-    by z = cond z (write_to (target (picks3_dx (named c)) true p) c v) (untold Closed c)
+    by z = cond z (write_to (target (picks3_dx (named c)) true p) c v) (untold (Err Closed) c)
 
     go : (z : Bool) → ((by z).before ≡ (by z).after → ⊥) → differ c (by z).chip ≡ true
     go true h = target_differs (target (picks3_dx (named c)) true p) c v h

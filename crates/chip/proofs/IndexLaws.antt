@@ -16,9 +16,9 @@ use Rattle.chip.specs.State.{Chip, Named, named, join, with_named, with_indexes,
 use Rattle.chip.specs.Names.{locked, received, ports_open, picks3_dx}
 use Rattle.chip.specs.Access.{Seen, port_written, port_read, untold, told, seen}
 use Rattle.chip.specs.declared.Indexes.{Indexes}
-use Rattle.chip.specs.declared.access.Answer.TheVariants.{Done}
 use Rattle.chip.proofs.NameLaws.{received-bit, received_other}
 use Rattle.chip.proofs.AccessLaws.{write_open, read_open, write_data}
+use Rattle.std.specs.Prelude.{Ok}
 
 -- the bytes that hold the indexes, after one index is written: what is kept of it, and the others as they were
 pub byte-written : (g : Group) (x : Indexes) (v : ℕ) → index_byte g (with_index g x v) ≡ index_kept g v
@@ -69,15 +69,15 @@ index_turn Ar x turn = refl
 
 -- through the ports: what a write to an index port leaves, and what index ports read then
 module _ (c : Chip) (p v : ℕ) (g : Group) (free : ports_open (named c) ≡ true) (writes : target (picks3_dx (named c)) true p ≡ Index g) where
-  pub write_index : port_written c p v ≡ untold Done (with_indexes c (with_index g c.indexes v))
+  pub write_index : port_written c p v ≡ untold (Ok tt) (with_indexes c (with_index g c.indexes v))
   write_index = write_open c p free v ∙ rw writes refl
 
   now_reads : (q : ℕ) (h : Group) → target (picks3_dx (named c)) false q ≡ Index h
-      → port_read (port_written c p v).chip q ≡ seen Done (index_of h (with_index g c.indexes v)) (port_written c p v).chip
+      → port_read (port_written c p v).chip q ≡ seen (Ok tt) (index_of h (with_index g c.indexes v)) (port_written c p v).chip
   now_reads q h reads = rw write_index (read_open (with_indexes c (with_index g c.indexes v)) q free ∙ rw reads refl)
 
-  pub index-reads_back : target (picks3_dx (named c)) false p ≡ Index g → port_read (port_written c p v).chip p ≡ seen Done (index_kept g v) (port_written c p v).chip
-  index-reads_back reads = now_reads p g reads ∙ ap (λ (b : ℕ). seen Done b (port_written c p v).chip) (index_same g c.indexes v)
+  pub index-reads_back : target (picks3_dx (named c)) false p ≡ Index g → port_read (port_written c p v).chip p ≡ seen (Ok tt) (index_kept g v) (port_written c p v).chip
+  index-reads_back reads = now_reads p g reads ∙ ap (λ (b : ℕ). seen (Ok tt) b (port_written c p v).chip) (index_same g c.indexes v)
 
   pub index_reads_other : (q : ℕ) (h : Group) → (number_of g ≡ number_of h → ⊥) → target (picks3_dx (named c)) false q ≡ Index h
       → (port_read (port_written c p v).chip q).value ≡ (port_read c q).value
@@ -97,13 +97,13 @@ module _ (c : Chip) (p v : ℕ) (g : Group) (free : ports_open (named c) ≡ tru
 pub index_folds : (c : Chip) (p v : ℕ) (g : Group) → ports_open (named c) ≡ true → target (picks3_dx (named c)) true p ≡ Index g
     → port_written c p v ≡ port_written c p (index_kept g v)
 index_folds c p v g free writes =
-    write_index c p v g free writes ∙ ap (λ (x : Indexes). untold Done (with_indexes c x)) (sym (index_kept_lem g c.indexes v))
+    write_index c p v g free writes ∙ ap (λ (x : Indexes). untold (Ok tt) (with_indexes c x)) (sym (index_kept_lem g c.indexes v))
     ∙ sym (write_index c p (index_kept g v) g free writes)
 
 -- the pair that MSR bit 0 does not pick reads FFh and writes nothing, its index port like its data port
 pub pair_not_picked : (c : Chip) → ports_open (named c) ≡ true → (b : Bool) → picks3_dx (named c) ≡ b → (v : ℕ)
-    → (port_read c (cond b 0x3B4 0x3D4) ≡ seen Done 0xFF c) × (port_written c (cond b 0x3B4 0x3D4) v ≡ untold Done c)
-    × (port_read c (cond b 0x3B5 0x3D5) ≡ seen Done 0xFF c) × (port_written c (cond b 0x3B5 0x3D5) v ≡ untold Done c)
+    → (port_read c (cond b 0x3B4 0x3D4) ≡ seen (Ok tt) 0xFF c) × (port_written c (cond b 0x3B4 0x3D4) v ≡ untold (Ok tt) c)
+    × (port_read c (cond b 0x3B5 0x3D5) ≡ seen (Ok tt) 0xFF c) × (port_written c (cond b 0x3B5 0x3D5) v ≡ untold (Ok tt) c)
 unfolding target ports
 pair_not_picked c free true picks v =
     (read_open c 0x3B4 free ∙ rw picks, write_open c 0x3B4 free v ∙ rw picks, read_open c 0x3B5 free ∙ rw picks, write_open c 0x3B5 free v ∙ rw picks)
@@ -138,6 +138,6 @@ msr_picks_pair c free v b e =
     picks : picks3_dx (named d) ≡ b
     picks = msr_sets_pair (named c) v ∙ e
 
-    picked : (b : Bool) → picks3_dx (named d) ≡ b → port_read d (cond b 0x3D4 0x3B4) ≡ seen Done (index_of Cr c.indexes) d
+    picked : (b : Bool) → picks3_dx (named d) ≡ b → port_read d (cond b 0x3D4 0x3B4) ≡ seen (Ok tt) (index_of Cr c.indexes) d
     picked true p = read_open d 0x3D4 open_still ∙ rw p
     picked false p = read_open d 0x3B4 open_still ∙ rw p

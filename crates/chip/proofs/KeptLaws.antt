@@ -6,7 +6,6 @@ use Rattle.lists.specs.Tab.{tab}
 use Rattle.lists.proofs.Tab.{tab-length, tab-at, tab-is}
 use Rattle.chip_registers.specs.Groups.{is, is_indexed, row_of}
 use Rattle.chip_registers.specs.Row.{Slot, At, Nowhere, slot_of, row_size}
-use Rattle.chip_registers.specs.declared.Row.TheVariants.{Unlisted}
 use Rattle.chip_registers.specs.declared.Group.{Group}
 use Rattle.chip_registers.specs.declared.Group.TheVariants.{Cr, Sr, Gr, Xr, Fr, Mr, Msr, Palmask, Ar}
 use Rattle.chip_registers.proofs.TableLaws.{is_same}
@@ -25,6 +24,7 @@ use Rattle.chip.proofs.AccessLaws.{named-written, read_keeps_all}
 use Rattle.chip.proofs.ResetLaws.{bank-reset, register-reset, reset_unlisted}
 use Rattle.chip.proofs.SizeLaws.{length-written}
 use Rattle.chip.proofs.ViewLaws.{one-register, none_writable, unlisted_shows_00}
+use Rattle.std.specs.Prelude.{None}
 
 -- what is kept of a state: each place has the byte of its register
 abbrev pub kept : Chip → Kept
@@ -40,7 +40,7 @@ kept c = record {
 
 -- every register has its place, and 00h stands where an index is not listed
 abbrev pub Zeros : Named → Type 0
-Zeros n = (g : Group) (i : ℕ) → i < 256 → row_of g i ≡ Unlisted → register g n i ≡ 0x00
+Zeros n = (g : Group) (i : ℕ) → i < 256 → row_of g i ≡ None → register g n i ≡ 0x00
 
 pub record Rowable (n : Named) : Type 0 where
   pub sizes : (g : Group) → length (bank g n) ≡ room g

@@ -10,8 +10,9 @@ use Rattle.chip_ports.specs.declared.Target.TheVariants.{Index, Data, ReadIndex,
 use Rattle.chip.specs.State.{Chip, named}
 use Rattle.chip.specs.Names.{ports_open, picks3_dx}
 use Rattle.chip.specs.Access.{Seen, Wrote, answer_number, access_table, write_to, read_from, port_written, port_read, untold, seen}
-use Rattle.chip.specs.declared.access.Answer.TheVariants.{Done, Unlisted, Closed}
 use Rattle.chip.proofs.AccessLaws.{write_closed, read_closed, write_open, read_open}
+use Rattle.std.specs.Prelude.{Ok, Err}
+use Rattle.chip.specs.declared.access.AccessError.TheVariants.{Unlisted, Closed}
 
 -- the number by where a port leads; no write leads to the status
 written-number : (t : Target) (c : Chip) (v : ℕ) → (t ≡ Status → ⊥) → answer_number (write_to t c v).answer ≡ cond (is_listed t) 0 1
@@ -22,7 +23,7 @@ written-number WriteIndex c v other = refl
 written-number Paldata c v other = refl
 written-number Attribute c v other = ap answer_number (of_cond (λ (w : Wrote). w.answer) c.indexes.turn _ _) ∙ same c.indexes.turn
   where
-    same : (z : Bool) → answer_number (cond z Done Done) ≡ 0
+    same : (z : Bool) → answer_number (cond z (Ok tt) (Ok tt)) ≡ 0
     same true = refl
     same false = refl
 written-number Status c v other = absurd (other refl)
@@ -59,7 +60,7 @@ write_number c p v = go (ports_open (named c))
     t : Target
     t = target (picks3_dx (named c)) true p
 
-    go : (z : Bool) → answer_number (cond z (write_to t c v) (untold Closed c)).answer ≡ cond z (cond (is_listed t) 0 1) 2
+    go : (z : Bool) → answer_number (cond z (write_to t c v) (untold (Err Closed) c)).answer ≡ cond z (cond (is_listed t) 0 1) 2
     go true = written-number t c v (status_read-only (picks3_dx (named c)) p)
     go false = refl
 
@@ -70,7 +71,7 @@ read_number c p = go (ports_open (named c))
     t : Target
     t = target (picks3_dx (named c)) false p
 
-    go : (z : Bool) → answer_number (cond z (read_from t c) (seen Closed 0xFF c)).answer ≡ cond z (cond (is_listed t) 0 1) 2
+    go : (z : Bool) → answer_number (cond z (read_from t c) (seen (Err Closed) 0xFF c)).answer ≡ cond z (cond (is_listed t) 0 1) 2
     go true = seen-number t c
     go false = refl
 
@@ -150,6 +151,6 @@ read-refused c p other =
     (λ free unlisted. rw (read_open c p free, unlisted) (refl, refl))
 
 -- MSR is written at 3C2h and read at 3CCh: the other direction of each is refused with 1
-pub msr_one_way : (c : Chip) → ports_open (named c) ≡ true → (v : ℕ) → (port_read c 0x3C2 ≡ seen Unlisted 0xFF c) × (port_written c 0x3CC v ≡ untold Unlisted c)
+pub msr_one_way : (c : Chip) → ports_open (named c) ≡ true → (v : ℕ) → (port_read c 0x3C2 ≡ seen (Err Unlisted) 0xFF c) × (port_written c 0x3CC v ≡ untold (Err Unlisted) c)
 unfolding target ports
 msr_one_way c free v = (read_open c 0x3C2 free, write_open c 0x3CC free v)

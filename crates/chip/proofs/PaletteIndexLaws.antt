@@ -17,10 +17,11 @@ use Rattle.chip.specs.Access.{Seen, Wrote, write_to, port_written, port_read, to
 use Rattle.chip.specs.Reset.{reset}
 use Rattle.chip.specs.Reach.{fresh}
 use Rattle.chip.specs.declared.Loading.{Loading}
-use Rattle.chip.specs.declared.access.Answer.TheVariants.{Done, Closed}
 use Rattle.chip.proofs.AccessLaws.{read_open, state_read}
 use Rattle.chip.proofs.PaletteLaws.{write_index-written, read-index_written, after, read, colour_by_ports, colour_read_by_ports}
 use Rattle.chip.proofs.ReachLaws.{ports_stay}
+use Rattle.std.specs.Prelude.{Ok, Err}
+use Rattle.chip.specs.declared.access.AccessError.TheVariants.{Closed}
 
 -- the state after an index is written: the read index at 3C7h, the write index at 3C8h
 abbrev pub index_written : Chip → ℕ → Bool → Chip
@@ -94,7 +95,7 @@ target_state WriteIndex c v other = cc
 target_state Paldata c v other = moved_state (held c.loading v) ∙ held_state c.loading v
 target_state Attribute c v other = go c.indexes.turn
   where
-    go : (z : Bool) → (cond z (told Ar (index_of Ar c.indexes) c (attribute_set c v)) (untold Done (attribute_aimed c v))).chip.loading.reading ≡ c.loading.reading
+    go : (z : Bool) → (cond z (told Ar (index_of Ar c.indexes) c (attribute_set c v)) (untold (Ok tt) (attribute_aimed c v))).chip.loading.reading ≡ c.loading.reading
     go true = refl
     go false = refl
 target_state Status c v other = refl
@@ -113,7 +114,7 @@ palstate_kept_by_write c p v read-index write_index = let same = go (ports_open 
     elsewhere : has p (0x3C7 ∷ 0x3C8 ∷ []) ≡ false
     elsewhere = rw (ne_eqb p 0x3C7 read-index, ne_eqb p 0x3C8 write_index)
 
-    go : (z : Bool) → (cond z (write_to (target (picks3_dx (named c)) true p) c v) (untold Closed c)).chip.loading.reading ≡ c.loading.reading
+    go : (z : Bool) → (cond z (write_to (target (picks3_dx (named c)) true p) c v) (untold (Err Closed) c)).chip.loading.reading ≡ c.loading.reading
     go true =
         target_state (target (picks3_dx (named c)) true p) c v
         (target_elsewhere (λ t. not (aims t)) (0x3C7 ∷ 0x3C8 ∷ []) (picks3_dx (named c)) true p (aims-there (picks3_dx (named c))) elsewhere)

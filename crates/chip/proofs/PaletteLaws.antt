@@ -15,10 +15,10 @@ use Rattle.chip.specs.Palette.{rgb, by_mode, entry, coloured, aimed, held, moved
 use Rattle.chip.specs.Access.{Seen, Wrote, port_written, port_read, untold, seen}
 use Rattle.chip.specs.declared.Indexes.{Indexes}
 use Rattle.chip.specs.declared.Loading.{Loading}
-use Rattle.chip.specs.declared.access.Answer.TheVariants.{Done}
 use Rattle.chip.proofs.NameLaws.{Has, received-bit, received_other, received_keeps_colours}
 use Rattle.chip.proofs.AccessLaws.{write_open, read_open}
 use Rattle.chip.proofs.IndexLaws.{register_by_ports}
+use Rattle.std.specs.Prelude.{Ok}
 
 -- a stored colour stands at its entry, and the other entries keep theirs
 pub coloured-same : (n : Named) (e r g b : ℕ) → e < length n.palette
@@ -31,19 +31,19 @@ unfolding coloured
 coloured_other n e r g b k h = get_or-set_other n.palette e k _ (rgb 0 0 0) h
 
 module _ (n : Named) (x : Indexes) (l : Loading) (v : ℕ) (free : ports_open n ≡ true) where
-  pub write_index-written : port_written (join n x l) 0x3C8 v ≡ untold Done (join n x (aimed l v false))
+  pub write_index-written : port_written (join n x l) 0x3C8 v ≡ untold (Ok tt) (join n x (aimed l v false))
   unfolding target ports
   write_index-written = write_open (join n x l) 0x3C8 free v
 
-  pub read-index_written : port_written (join n x l) 0x3C7 v ≡ untold Done (join n x (aimed l v true))
+  pub read-index_written : port_written (join n x l) 0x3C7 v ≡ untold (Ok tt) (join n x (aimed l v true))
   unfolding target ports
   read-index_written = write_open (join n x l) 0x3C7 free v
 
-  pub paldata-written : port_written (join n x l) 0x3C9 v ≡ untold Done (join (loaded n l v) x (moved (held l v)))
+  pub paldata-written : port_written (join n x l) 0x3C9 v ≡ untold (Ok tt) (join (loaded n l v) x (moved (held l v)))
   unfolding target ports
   paldata-written = write_open (join n x l) 0x3C9 free v
 
-pub paldata-read : (n : Named) (x : Indexes) (l : Loading) → ports_open n ≡ true → port_read (join n x l) 0x3C9 ≡ seen Done (paldata n l) (join n x (moved l))
+pub paldata-read : (n : Named) (x : Indexes) (l : Loading) → ports_open n ≡ true → port_read (join n x l) 0x3C9 ≡ seen (Ok tt) (paldata n l) (join n x (moved l))
 unfolding target ports
 paldata-read n x l free = read_open (join n x l) 0x3C9 free
 
@@ -154,20 +154,20 @@ module _ (l : Loading) (e : ℕ) (reading : Bool) where
       → ((read (join m x (aimed l e reading))).value ≡ by_mode (eight_bit m) (entry m e).red)
       × ((read (join n y (read (join m x (aimed l e reading))).chip.loading)).value ≡ by_mode (eight_bit n) (entry n e).green)
       × (read (join o z (read (join n y (read (join m x (aimed l e reading))).chip.loading)).chip.loading)
-      ≡ seen Done (by_mode (eight_bit o) (entry o e).blue) (join o z (aimed l ((e + 1) % 256) reading)))
+      ≡ seen (Ok tt) (by_mode (eight_bit o) (entry o e).blue) (join o z (aimed l ((e + 1) % 256) reading)))
   components-read m n o x y z first second third =
       rw (paldata-read m x (at 0) first, paldata-read n y (at 1) second, paldata-read o z (at 2) third) (refl, refl, refl)
 
 -- 3C7h gets an entry, then 3C9h is read three times, with nothing between: from any state with open ports
 module _ (c : Chip) (e : ℕ) (free : ports_open (named c) ≡ true) where
-  aim_read : port_written c 0x3C7 e ≡ untold Done (join (named c) c.indexes (at c.loading e true 0))
+  aim_read : port_written c 0x3C7 e ≡ untold (Ok tt) (join (named c) c.indexes (at c.loading e true 0))
   aim_read = read-index_written (named c) c.indexes c.loading e free
 
   pub colour_read_by_ports :
       ((read (port_written c 0x3C7 e).chip).value ≡ by_mode (eight_bit (named c)) (entry (named c) e).red)
       × ((read (read (port_written c 0x3C7 e).chip).chip).value ≡ by_mode (eight_bit (named c)) (entry (named c) e).green)
       × (read (read (read (port_written c 0x3C7 e).chip).chip).chip
-      ≡ seen Done (by_mode (eight_bit (named c)) (entry (named c) e).blue) (with_loading c (aimed c.loading ((e + 1) % 256) true)))
+      ≡ seen (Ok tt) (by_mode (eight_bit (named c)) (entry (named c) e).blue) (with_loading c (aimed c.loading ((e + 1) % 256) true)))
   colour_read_by_ports =
       rw (
         aim_read,

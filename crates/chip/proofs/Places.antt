@@ -1,91 +1,115 @@
--- Where a register stands in the row, as the code asks: a number below 275, or 275 for none. What the proofs of `place_of`,
--- `get`, `put` and `fill` cite.
+-- Where a register stands in the row, as the code asks: a number below 275, or none. What the proofs of `place_of`, `get`, `put`
+-- and `fill` cite.
 use Rattle.std.proofs.Common.{◌≡◌, ℕ, suc, ◌+◌, ◌-◌, ◌*◌, ◌/◌, ◌%◌, ◌<◌, ◌≤◌, Bool, true, false, cond, eqb, ltb, List, length, get_or, set, sym, refl, ap, ◌∙◌, true≢false, arith, get_or-set_other, get_or-set_same, ltb-false, ltb-true, eqb-true}
+use Rattle.std.specs.Prelude.{Option, Some, None, IfSome, replicate}
+use Rattle.lists.specs.Tab.{tab}
 use borrow.Author.Tests.{eqb-false}
 use Rattle.lists.proofs.Tab.{tab-same}
 use Rattle.chip_registers.specs.Groups.{number_of, group_at, is_indexed}
 use Rattle.chip_registers.specs.Row.{Slot, At, Nowhere, before, slot_of, row_size}
 use Rattle.chip_registers.specs.WriteRule.{writable_now, written}
 use Rattle.chip_registers.specs.declared.Group.{Group}
-use Rattle.chip_registers.specs.declared.Group.TheVariants.{Msr, Palmask}
+use Rattle.chip_registers.specs.declared.Group.TheVariants.{Cr, Sr, Gr, Xr, Fr, Mr, Msr, Palmask, Ar}
 use Rattle.chip_registers.proofs.RowLaws.{stands, slot-one, nowhere_unlisted}
 use Rattle.chip_registers.proofs.TableLaws.{group_numbered, number_few}
 use Rattle.chip_masks.specs.Table.{standing, standing_of}
 use Rattle.chip.specs.State.{named, with_named}
 use Rattle.chip.specs.Names.{register, locked, received}
-use Rattle.chip.specs.Reset.{reset_byte}
-use Rattle.chip.specs.View.{in_row, view, number_at, Filled}
+use Rattle.chip.specs.Reset.{reset_byte, reset}
+use Rattle.chip.specs.View.{in_row, view, place_at, Filled}
+use Rattle.chip.specs.Palette.{rgb}
+use Rattle.chip.specs.declared.Rgb.{Rgb}
 use Rattle.chip.specs.declared.Chip.{Chip as Kept}
 use Rattle.chip.proofs.ResetLaws.{reset_unlisted}
 use Rattle.chip.proofs.ViewLaws.{with_row, shown-at, received-at, received_nowhere}
 
+-- what the answer tells of the place
+some_at : {k : ℕ} (s : Slot) → place_at s ≡ Some k → s ≡ At k
+some_at (At k) e = cc
+some_at Nowhere e = cc
+
+none_nowhere : (s : Slot) → place_at s ≡ None → s ≡ Nowhere
+none_nowhere (At k) e = cc
+none_nowhere Nowhere e = refl
+
+-- where a group's registers start in the row; none for MSR and PALMASK
+abbrev first_at : Group → Option ℕ
+first_at g = cond (is_indexed g) (Some (before g)) None
+
 at_inj : {j k : ℕ} → At j ≡ At k → j ≡ k
-at_inj e = ap number_at e
+at_inj e = cc
 
 module _ (g : Group) (i : ℕ) (h : i < 256) where
   -- MSR and PALMASK stand in no row
-  beside-row : is_indexed g ≡ false → slot_of g i ≡ Nowhere
-  beside-row x = go (slot_of g i) refl
+  pub beside-row : None ≡ first_at g → None ≡ place_at (slot_of g i)
+  beside-row x = go (is_indexed g) (slot_of g i) refl refl x
     where
-      go : (s : Slot) → slot_of g i ≡ s → s ≡ Nowhere
-      go (At k) e = absurd (true≢false (sym (stands g i k h e).listed ∙ x))
-      go Nowhere e = refl
+      go : (z : Bool) (s : Slot) → is_indexed g ≡ z → slot_of g i ≡ s → None ≡ cond z (Some (before g)) None → None ≡ place_at s
+      go true s w e n = cc
+      go false (At k) w e n = absurd (true≢false (sym (stands g i k h e).listed ∙ w))
+      go false Nowhere w e n = refl
 
   -- the byte that says where a register stands: below 128 it is none
-  pub stands_nowhere : standing_of g i < 128 → row_size ≡ number_at (slot_of g i)
+  pub stands_nowhere : standing_of g i < 128 → None ≡ place_at (slot_of g i)
   unfolding standing_of
   stands_nowhere low = go (is_indexed g) (slot_of g i) low
     where
-      go : (z : Bool) (s : Slot) → cond z (standing (before g) s) 128 < 128 → row_size ≡ number_at s
+      go : (z : Bool) (s : Slot) → cond z (standing (before g) s) 128 < 128 → None ≡ place_at s
       go true (At k) l = absurd (omega arith)
       go true Nowhere l = refl
       go false s l = absurd (omega arith)
 
   -- from 128 on it counts from the group's first
-  pub stands-there : 128 ≤ standing_of g i → cond (is_indexed g) (before g) row_size + (standing_of g i - 128) ≡ number_at (slot_of g i)
+  pub stands-there : {first : ℕ} → Some first ≡ first_at g → 128 ≤ standing_of g i → Some (first + (standing_of g i - 128)) ≡ place_at (slot_of g i)
   unfolding standing_of
-  stands-there high = go (is_indexed g) (slot_of g i) refl refl high
+  stands-there {first = first} x high = go (is_indexed g) (slot_of g i) refl x high
     where
-      go : (z : Bool) (s : Slot) → is_indexed g ≡ z → slot_of g i ≡ s → 128 ≤ cond z (standing (before g) s) 128
-          → cond z (before g) row_size + (cond z (standing (before g) s) 128 - 128) ≡ number_at s
-      go true (At k) x e l = omega (arith, (stands g i k h e).from)
-      go true Nowhere x e l = absurd (omega arith)
-      go false s x e l = ap number_at (sym (beside-row x) ∙ e)
+      go : (z : Bool) (s : Slot) → slot_of g i ≡ s → Some first ≡ cond z (Some (before g)) None → 128 ≤ cond z (standing (before g) s) 128
+          → Some (first + (cond z (standing (before g) s) 128 - 128)) ≡ place_at s
+      go true (At k) e x l =
+          let same : first ≡ before g = cc in
+          let k-is : first + (128 + (k - before g) - 128) ≡ k = omega (arith, (stands g i k h e).from) in
+          ap Some k-is
+      go true Nowhere e x l = absurd (omega arith)
+      go false s e x l = cc
 
-  -- what the number tells
-  pub slot_at : number_at (slot_of g i) < row_size → slot_of g i ≡ At (number_at (slot_of g i))
-  slot_at = go (slot_of g i)
+  -- a place is one of the row's
+  pub place-within : IfSome (place_at (slot_of g i)) (λ k. k < row_size)
+  place-within = go (slot_of g i) refl
     where
-      go : (s : Slot) → number_at s < row_size → s ≡ At (number_at s)
-      go (At k) l = refl
-      go Nowhere l = absurd (omega arith)
-
-  pub slot-none : row_size ≤ number_at (slot_of g i) → slot_of g i ≡ Nowhere
-  slot-none n = go (slot_of g i) refl n
-    where
-      go : (s : Slot) → slot_of g i ≡ s → row_size ≤ number_at s → s ≡ Nowhere
-      go (At k) e l = absurd (omega (arith, (stands g i k h e).within))
-      go Nowhere e l = refl
+      go : (s : Slot) → slot_of g i ≡ s → IfSome (place_at s) (λ k. k < row_size)
+      go (At k) e = (stands g i k h e).within
+      go Nowhere e = tt
 
 -- a register is read where it stands; MSR and PALMASK in fields of their own, and an unlisted index nowhere
-module _ (f : Kept) (g : Group) (i k : ℕ) (h : i < 256) (e : k ≡ number_at (slot_of g i)) where
-  pub read-there : k < row_size → get_or f.row k 0 ≡ register g (named (view f)) i
-  read-there w =
-      let s : slot_of g i ≡ At k = slot_at g i h (rw e at w) ∙ ap At (sym e) in
+module _ (f : Kept) (g : Group) (i : ℕ) (h : i < 256) {p : Option ℕ} (e : p ≡ place_at (slot_of g i)) where
+  pub read-there : {k : ℕ} → p ≡ Some k → get_or f.row k 0 ≡ register g (named (view f)) i
+  read-there {k = k} w =
+      let s = some_at (slot_of g i) (sym e ∙ w) in
       sym (shown-at g f i h (stands g i k h s).listed ∙ ap (in_row f.row) s)
 
-  pub read_nowhere : is_indexed g ≡ true → row_size ≤ k → 0x00 ≡ register g (named (view f)) i
-  read_nowhere x w = sym (shown-at g f i h x ∙ ap (in_row f.row) (slot-none g i h (rw e at w)))
+  pub read_nowhere : is_indexed g ≡ true → p ≡ None → 0x00 ≡ register g (named (view f)) i
+  read_nowhere x w = sym (shown-at g f i h x ∙ ap (in_row f.row) (none_nowhere (slot_of g i) (sym e ∙ w)))
 
   -- and so it receives a byte
-  pub put-there : (v b m : ℕ) → length f.row ≡ row_size → k < row_size → m ≡ writable_now g (locked g (named (view f))) i
+  pub put-there : {k : ℕ} → p ≡ Some k → (v b m : ℕ) → length f.row ≡ row_size → m ≡ writable_now g (locked g (named (view f))) i
       → b ≡ written (get_or f.row k 0) v m → view (with_row f (set f.row k b)) ≡ with_named (view f) (received g (named (view f)) i v)
-  put-there v b m n w mask made =
-      let s : slot_of g i ≡ At k = slot_at g i h (rw e at w) ∙ ap At (sym e) in
-      rw made (received-at g f i k v m h n s mask)
+  put-there {k = k} w v b m n mask made = rw made (received-at g f i k v m h n (some_at (slot_of g i) (sym e ∙ w)) mask)
 
-  pub put_nowhere : (v : ℕ) → is_indexed g ≡ true → row_size ≤ k → view f ≡ with_named (view f) (received g (named (view f)) i v)
-  put_nowhere v x w = sym (received_nowhere g f i v h x (slot-none g i h (rw e at w)))
+  pub put_nowhere : (v : ℕ) → is_indexed g ≡ true → p ≡ None → view f ≡ with_named (view f) (received g (named (view f)) i v)
+  put_nowhere v x w = sym (received_nowhere g f i v h x (none_nowhere (slot_of g i) (sym e ∙ w)))
+
+-- every other group has its registers in the row
+pub indexed-else : (g : Group) → (g ≡ Msr → ⊥) → (g ≡ Palmask → ⊥) → is_indexed g ≡ true
+indexed-else Cr a b = refl
+indexed-else Sr a b = refl
+indexed-else Gr a b = refl
+indexed-else Xr a b = refl
+indexed-else Fr a b = refl
+indexed-else Mr a b = refl
+indexed-else Msr a b = absurd (a refl)
+indexed-else Palmask a b = absurd (b refl)
+indexed-else Ar a b = refl
 
 -- MSR and PALMASK are read and receive a byte in their fields
 module _ (f : Kept) where
@@ -121,22 +145,19 @@ module _ (first second : ℕ) where
       let h : m % 256 < 256 = omega arith in
       ap (in_row r) e ∙ sym (reset_unlisted first second (group_at (m / 256)) (m % 256) (nowhere_unlisted (group_at (m / 256)) (m % 256) h x e))
 
-  module _ (r : List ℕ) (n k : ℕ) (done : (m : ℕ) → m < n → Stored r m) (e : k ≡ number_at (slot_of (group_at (n / 256)) (n % 256))) where
-    pub skipped : row_size ≤ k → (m : ℕ) → m < suc n → Stored r m
+  module _ (r : List ℕ) (n : ℕ) (done : (m : ℕ) → m < n → Stored r m) {p : Option ℕ} (e : p ≡ place_at (slot_of (group_at (n / 256)) (n % 256))) where
+    pub skipped : p ≡ None → (m : ℕ) → m < suc n → Stored r m
     skipped w m h = go (ltb m n) refl
       where
         go : (z : Bool) → ltb m n ≡ z → Stored r m
         go true t = done m (ltb-true m n t)
         go false t =
             let same : m ≡ n = omega (arith, ltb-false m n t) in
-            let below : n % 256 < 256 = omega arith in
-            rw same (unlisted_stored r n (slot-none (group_at (n / 256)) (n % 256) below (rw e at w)))
+            rw same (unlisted_stored r n (none_nowhere (slot_of (group_at (n / 256)) (n % 256)) (sym e ∙ w)))
 
-    module _ (b : ℕ) (size : length r ≡ row_size) (w : k < row_size) (made : b ≡ reset_byte first second (group_at (n / 256)) (n % 256)) where
+    module _ {k : ℕ} (w : p ≡ Some k) (b : ℕ) (size : length r ≡ row_size) (made : b ≡ reset_byte first second (group_at (n / 256)) (n % 256)) where
       here : slot_of (group_at (n / 256)) (n % 256) ≡ At k
-      here =
-          let below : n % 256 < 256 = omega arith in
-          slot_at (group_at (n / 256)) (n % 256) below (rw e at w) ∙ ap At (sym e)
+      here = some_at (slot_of (group_at (n / 256)) (n % 256)) (sym e ∙ w)
 
       pub stored : (m : ℕ) → m < suc n → Stored (set r k b) m
       stored m h x = go (slot_of (group_at (m / 256)) (m % 256)) refl
@@ -157,7 +178,7 @@ module _ (first second : ℕ) where
               → get_or (set r k b) y 0 ≡ reset_byte first second (group_at (m / 256)) (m % 256)
           there y s true t =
               let yk : y ≡ k = eqb-true y k t in
-              let room : k < length r = rw size w in
+              let room : k < length r = rw size (stands (group_at (n / 256)) (n % 256) k (below n) here).within in
               let (d, j) = slot-one (group_at (m / 256)) (group_at (n / 256)) (m % 256) (n % 256) k (below m) (below n) (s ∙ ap At yk) here in
               ap (λ (q : ℕ). get_or (set r k b) q 0) yk ∙ (get_or-set_same r k b 0 room ∙ (made ∙ rw (d, j)))
           there y s false t =
@@ -169,6 +190,21 @@ module _ (first second : ℕ) where
           go (At y) s = ap (in_row (set r k b)) s ∙ there y s (eqb y k) refl
           go Nowhere s = unlisted_stored (set r k b) m s x
 
+  -- so the loops go on: index i of group k has the number 256 k + i
+  module _ (r : List ℕ) (k i : ℕ) (h : i < 256) (done : (m : ℕ) → m < 256 * k + i → Stored r m) {p : Option ℕ} (e : p ≡ place_at (slot_of (group_at k) i)) where
+    of-group : (256 * k + i) / 256 ≡ k
+    of-group = omega arith
+
+    of-index : (256 * k + i) % 256 ≡ i
+    of-index = omega arith
+
+    pub noted : {at : ℕ} → p ≡ Some at → (b : ℕ) → length r ≡ row_size → b ≡ reset_byte first second (group_at k) i
+        → (m : ℕ) → m < 256 * k + (i + 1) → Stored (set r at b) m
+    noted w b size made m l = stored r (256 * k + i) done (rw (of-group, of-index) e) w b size (rw (of-group, of-index) made) m (omega arith)
+
+    pub passed : p ≡ None → (m : ℕ) → m < 256 * k + (i + 1) → Stored r m
+    passed w m l = skipped r (256 * k + i) done (rw (of-group, of-index) e) w m (omega arith)
+
   -- so all names have theirs
   pub filled : (r : List ℕ) → ((m : ℕ) → m < 2304 → Stored r m) → Filled first second r
   filled r done g x =
@@ -178,3 +214,30 @@ module _ (first second : ℕ) where
       let j : (256 * number_of g + i) % 256 ≡ i = omega arith in
       let t = done (256 * number_of g + i) (omega arith) in
       (rw (q, j, group_numbered g) at t) x)
+
+  -- a kept state that a reset leaves: this row, its registers beside it, and nothing else that is not 0
+  pub new_shown : (k : Kept) (black : Rgb) → Filled first second k.row → k.msr ≡ reset_byte first second Msr 0x00
+      → k.palmask ≡ reset_byte first second Palmask 0x00 → k.picture ≡ false → k.palette ≡ replicate 256 black
+      → (black.red ≡ 0) × ((black.green ≡ 0) × (black.blue ≡ 0))
+      → (k.indexes.cr ≡ 0) × ((k.indexes.sr ≡ 0) × ((k.indexes.gr ≡ 0) × ((k.indexes.xr ≡ 0) × ((k.indexes.fr ≡ 0) × ((k.indexes.mr ≡ 0)
+      × ((k.indexes.ar ≡ 0) × (k.indexes.turn ≡ false)))))))
+      → (k.loading.index ≡ 0) × ((k.loading.position ≡ 0) × ((k.loading.red ≡ 0) × ((k.loading.green ≡ 0) × (k.loading.reading ≡ false))))
+      → view k ≡ reset first second
+  unfolding view reset
+  new_shown k black row msr palmask picture palette (r, (g, b)) (cr, (sr, (gr, (xr, (fr, (mr, (ar, turn))))))) (index, (position, (red, (green, reading)))) =
+      rw (row Cr refl, row Sr refl, row Gr refl, row Xr refl, row Fr refl, row Mr refl, row Ar refl, msr, palmask, picture, palette)
+      (λ n. record {
+        cr = tab (reset_byte first second Cr) 256;
+        sr = tab (reset_byte first second Sr) 256;
+        gr = tab (reset_byte first second Gr) 256;
+        xr = tab (reset_byte first second Xr) 256;
+        fr = tab (reset_byte first second Fr) 256;
+        mr = tab (reset_byte first second Mr) 256;
+        ar = tab (reset_byte first second Ar) 256;
+        msr = reset_byte first second Msr 0x00;
+        palmask = reset_byte first second Palmask 0x00;
+        picture = false;
+        palette = replicate 256 (rgb (r n) (g n) (b n));
+        indexes = record { cr = cr n; sr = sr n; gr = gr n; xr = xr n; fr = fr n; mr = mr n; ar = ar n; turn = turn n };
+        loading = record { index = index n; position = position n; red = red n; green = green n; reading = reading n };
+      })

@@ -7,15 +7,16 @@ use Rattle.chip_ports.specs.declared.Target.{Target}
 use Rattle.chip.specs.State.{Chip, named}
 use Rattle.chip.specs.Names.{ports_open, picks3_dx}
 use Rattle.chip.specs.Access.{port_written, port_read, write_to, read_from, untold, seen}
-use Rattle.chip.specs.declared.access.Answer.TheVariants.{Closed}
+use Rattle.std.specs.Prelude.{Err}
+use Rattle.chip.specs.declared.access.AccessError.TheVariants.{Closed}
 
 module _ (c : Chip) (p : ℕ) {answers : Bool} (is : answers ≡ ports_open (named c)) where
   module _ (shut : not answers ≡ true) where
-    pub closed_write : (v : ℕ) → untold Closed c ≡ port_written c p v
+    pub closed_write : (v : ℕ) → untold (Err Closed) c ≡ port_written c p v
     unfolding port_written
     closed_write v = rw (← is, not-true answers shut)
 
-    pub closed_read : seen Closed 0xFF c ≡ port_read c p
+    pub closed_read : seen (Err Closed) 0xFF c ≡ port_read c p
     unfolding port_read
     closed_read = rw (← is, not-true answers shut)
 

@@ -9,8 +9,6 @@ use Rattle.lists.proofs.Tab.{tab-at, tab-bytes}
 use Rattle.chip_registers.specs.Extension.{xr_lines}
 use Rattle.chip_registers.specs.Groups.{is, row_of, reset_of}
 use Rattle.chip_registers.proofs.TableLaws.{byte-rows, is_same}
-use Rattle.chip_registers.specs.declared.Row.{Row}
-use Rattle.chip_registers.specs.declared.Row.TheVariants.{Listed, Unlisted}
 use Rattle.chip_registers.specs.declared.Group.{Group}
 use Rattle.chip_registers.specs.declared.Group.TheVariants.{Cr, Sr, Gr, Xr, Fr, Mr, Msr, Palmask, Ar}
 use Rattle.chip.specs.State.{named, index_byte}
@@ -19,6 +17,9 @@ use Rattle.chip.specs.Palette.{rgb, entry}
 use Rattle.chip.specs.Reset.{reset_byte, reset}
 use Rattle.chip.proofs.Banks.{bank, place, room, place-room, register-bank}
 use Rattle.chip.proofs.NameLaws.{Bytes}
+use Rattle.std.specs.Prelude.{Option, Some, None}
+use Rattle.chip_registers.specs.declared.Row.{Row}
+use Rattle.chip_registers.specs.Rows.{listed}
 
 -- a group's bank after a reset
 tab-one : (f : ℕ → ℕ) → ◌≡◌ {A = List ℕ} (f 0 ∷ []) (tab f 1)
@@ -64,20 +65,30 @@ pub xr_pins_reset : (first second : ℕ)
 unfolding reset_byte
 xr_pins_reset first second = (refl, refl, refl)
 
+-- no other group shows them
+pub reset-pinless : (first second : ℕ) (g : Group) (i : ℕ) → (g ≡ Xr → ⊥) → reset_of g i ≡ reset_byte first second g i
+unfolding reset_byte
+reset-pinless first second g i other = go (is g Xr) refl
+  where
+    go : (z : Bool) → is g Xr ≡ z
+        → reset_of g i ≡ cond z (cond (eqb i 0x08) (bit_and first 0x02) (cond (eqb i 0x70) (bit_or first 0x01) (cond (eqb i 0x71) second (reset_of g i)))) (reset_of g i)
+    go true e = absurd (other (is_same g Xr e))
+    go false e = refl
+
 -- 00h at an unlisted index
-xr_pins_listed : (i : ℕ) → row_of Xr i ≡ Unlisted → (eqb i 0x08 ≡ false) × (eqb i 0x70 ≡ false) × (eqb i 0x71 ≡ false)
+xr_pins_listed : (i : ℕ) → row_of Xr i ≡ None → (eqb i 0x08 ≡ false) × (eqb i 0x70 ≡ false) × (eqb i 0x71 ≡ false)
 unfolding row_of xr_lines
 xr_pins_listed i none = (go 0x08 refl _ refl, go 0x70 refl _ refl, go 0x71 refl _ refl)
   where
-    listed : Row → Bool
-    listed (Listed w r) = true
-    listed Unlisted = false
+    listed : Option Row → Bool
+    listed (Some row) = true
+    listed None = false
 
     go : (k : ℕ) → listed (row_of Xr k) ≡ true → (z : Bool) → eqb i k ≡ z → eqb i k ≡ false
     go k has true e = cc (sym has ∙ ap (λ (x : ℕ). listed (row_of Xr x)) (sym (eqb-true i k e)) ∙ ap listed none)
     go k has false e = e
 
-pub reset_unlisted : (first second : ℕ) (g : Group) (i : ℕ) → row_of g i ≡ Unlisted → reset_byte first second g i ≡ 0x00
+pub reset_unlisted : (first second : ℕ) (g : Group) (i : ℕ) → row_of g i ≡ None → reset_byte first second g i ≡ 0x00
 unfolding reset_byte
 reset_unlisted first second g i none = go (is g Xr) refl
   where

@@ -24,7 +24,6 @@ use Rattle.chip.specs.Attribute.{attribute_set, attribute_aimed}
 use Rattle.chip.specs.Access.{Seen, write_to, port_written, told, untold}
 use Rattle.chip.specs.Reset.{reset_byte, reset}
 use Rattle.chip.specs.Reach.{Reach, fresh, wrote, saw}
-use Rattle.chip.specs.declared.access.Answer.TheVariants.{Done}
 use Rattle.chip.specs.declared.Indexes.{Indexes}
 use Rattle.chip.specs.declared.Loading.{Loading}
 use Rattle.chip.specs.declared.Rgb.{Rgb}
@@ -34,6 +33,7 @@ use Rattle.chip.proofs.AccessLaws.{write_cases, state_read, write_data, named-wr
 use Rattle.chip.proofs.IndexLaws.{byte-written, byte_other, index_turn}
 use Rattle.chip.proofs.PaletteLaws.{coloured-same, after, read, colour_by_ports, colour_read_by_ports}
 use Rattle.chip.proofs.ResetLaws.{bank-reset}
+use Rattle.std.specs.Prelude.{Ok}
 
 -- a register that receives a byte, and a colour that is stored, leave every table and the palette as long as it was
 set_if : (z : Bool) (l : List ℕ) (i b : ℕ) → length (cond z (set l i b) l) ≡ length l
@@ -100,7 +100,7 @@ moved_below l h = either (eqb l.position 2) _ _ (omega arith) h
 held_below : (l : Loading) (v : ℕ) → l.index < 0x100 → (held l v).index < 0x100
 held_below l v h = either (eqb l.position 2) _ _ h (either (eqb l.position 1) _ _ h h)
 
-attribute_within : (c : Chip) (v : ℕ) → Within c → (z : Bool) → Within (cond z (told Ar (index_of Ar c.indexes) c (attribute_set c v)) (untold Done (attribute_aimed c v))).chip
+attribute_within : (c : Chip) (v : ℕ) → Within c → (z : Bool) → Within (cond z (told Ar (index_of Ar c.indexes) c (attribute_set c v)) (untold (Ok tt) (attribute_aimed c v))).chip
 attribute_within c v w true = record { groups = λ h. rw (index_turn h c.indexes false) (w.groups h); colours = w.colours }
 attribute_within c v w false = record {
   groups = λ h. rw (index_turn h (with_index Ar c.indexes v) true) (index-fits Ar h c.indexes v (w.groups h));

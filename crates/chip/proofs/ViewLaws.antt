@@ -5,12 +5,10 @@ use Rattle.std.proofs.Common.{◌≡◌, ℕ, zero, suc, ◌<◌, Bool, true, fa
 use lib.Bits.{and_zero_l}
 use Rattle.lists.specs.Scan.{every}
 use Rattle.lists.proofs.Tab.{tab-at, tab-same, tab-set}
-use Rattle.lists.proofs.Tests.{and_both}
+use Rattle.std.proofs.lemmas.Bool.{and_parts}
 use Rattle.chip_registers.specs.Groups.{group_at, is, is_indexed, row_of, writable_in}
 use Rattle.chip_registers.specs.Row.{Slot, At, Nowhere, slot_of, row_size}
 use Rattle.chip_registers.specs.WriteRule.{left_open, under_lock, writable_now, written}
-use Rattle.chip_registers.specs.declared.Row.{Row}
-use Rattle.chip_registers.specs.declared.Row.TheVariants.{Listed, Unlisted}
 use Rattle.chip_registers.specs.declared.Group.{Group}
 use Rattle.chip_registers.specs.declared.Group.TheVariants.{Cr, Sr, Gr, Xr, Fr, Mr, Msr, Palmask, Ar}
 use Rattle.chip_registers.proofs.TableLaws.{every_group, is_same}
@@ -21,6 +19,9 @@ use Rattle.chip.specs.Names.{register, replaced, locked, received}
 use Rattle.chip.specs.View.{in_row, table_from, view, Shows}
 use Rattle.chip.specs.declared.Chip.{Chip as Kept}
 use Rattle.chip.proofs.Banks.{is_self}
+use Rattle.std.specs.Prelude.{Option, Some, None}
+use Rattle.chip_registers.specs.declared.Row.{Row}
+use Rattle.chip_registers.specs.Rows.{listed}
 
 -- ---- a register of the row
 
@@ -44,15 +45,15 @@ place-shown f k h =
     ∙ ap (in_row f.row) (each-slot k h)
 
 -- MSR and PALMASK are listed at whatever index
-pub one-register : (g : Group) (i : ℕ) → is_indexed g ≡ false → row_of g i ≡ Unlisted → ⊥
+pub one-register : (g : Group) (i : ℕ) → is_indexed g ≡ false → row_of g i ≡ None → ⊥
 unfolding row_of
 one-register g i x e = go g x e
   where
-    is_listed : Row → Bool
-    is_listed (Listed w b) = true
-    is_listed Unlisted = false
+    is_listed : Option Row → Bool
+    is_listed (Some row) = true
+    is_listed None = false
 
-    go : (g : Group) → is_indexed g ≡ false → row_of g i ≡ Unlisted → ⊥
+    go : (g : Group) → is_indexed g ≡ false → row_of g i ≡ None → ⊥
     go Cr x e = true≢false x
     go Sr x e = true≢false x
     go Gr x e = true≢false x
@@ -64,7 +65,7 @@ one-register g i x e = go g x e
     go Ar x e = true≢false x
 
 -- an unlisted index reads 00h in every state that is shown, reached or not
-pub unlisted_shows_00 : (g : Group) (f : Kept) (i : ℕ) → i < 256 → row_of g i ≡ Unlisted → register g (named (view f)) i ≡ 0x00
+pub unlisted_shows_00 : (g : Group) (f : Kept) (i : ℕ) → i < 256 → row_of g i ≡ None → register g (named (view f)) i ≡ 0x00
 unlisted_shows_00 g f i h e = go (is_indexed g) refl
   where
     go : (z : Bool) → is_indexed g ≡ z → register g (named (view f)) i ≡ 0x00
@@ -128,7 +129,7 @@ unfolding group_at every
 beside g x =
     let t : (not (is_indexed g) || (not (is g Msr) && not (is g Palmask))) ≡ true =
     every_group (λ h. not (is_indexed h) || (not (is h Msr) && not (is h Palmask))) refl g in
-    let (a, b) = and_both (not (is g Msr)) (not (is g Palmask)) (rw x at t) in
+    let (a, b) = and_parts (not (is g Msr)) (not (is g Palmask)) (rw x at t) in
     (none (is g Msr) a, none (is g Palmask) b)
   where
     none : (z : Bool) → not z ≡ true → z ≡ false
@@ -186,7 +187,7 @@ replaced_itself Palmask n i = refl
 replaced_itself Ar n i = rw (set_itself n.ar i)
 
 -- an unlisted index has no bit that can be written, and keeps its 00h: a byte that it receives changes nothing
-pub none_writable : (g : Group) (on : Bool) (i : ℕ) → row_of g i ≡ Unlisted → writable_now g on i ≡ 0x00
+pub none_writable : (g : Group) (on : Bool) (i : ℕ) → row_of g i ≡ None → writable_now g on i ≡ 0x00
 unfolding writable_now
 none_writable g on i none = rw (ap writable_in none) (go on)
   where

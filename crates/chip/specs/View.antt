@@ -4,7 +4,7 @@
 -- and a state match when the one shows the other. What is shown decides what is kept (law `view_decides`), and every state that
 -- accesses reach is shown (law `reached-shown`): proofs/ViewLaws and KeptLaws. Every contract of this crate says what is shown
 -- afterwards by what was shown before: from matching states to matching states.
-use Rattle.std.specs.Prelude.{◌≡◌, ℕ, true, List, length, slice_index}
+use Rattle.std.specs.Prelude.{◌≡◌, ℕ, true, List, Option, Some, None, length, slice_index}
 use Rattle.lists.specs.Tab.{tab}
 use Rattle.chip_registers.specs.Groups.{is_indexed}
 use Rattle.chip_registers.specs.Row.{Slot, At, Nowhere, slot_of, row_size}
@@ -55,10 +55,10 @@ view_wrote w = wrote w.answer w.before w.after (view w.chip)
 abbrev pub view_seen : KeptSeen → Seen
 view_seen s = seen s.answer s.value (view s.chip)
 
--- a register's place in the row as a number; 275, which is no place, for none
-abbrev pub number_at : Slot → ℕ
-number_at (At k) = k
-number_at Nowhere = row_size
+-- a register's place in the row, as the code answers it
+abbrev pub place_at : Slot → Option ℕ
+place_at (At k) = Some k
+place_at Nowhere = None
 
 -- matching states: the row has its 275 bytes, and the one shows the other
 pub record Shows (k : Kept) (c : Chip) : Type 0 where

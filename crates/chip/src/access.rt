@@ -3,7 +3,7 @@
 ghost use Rattle.std.specs.Prelude.{◌≡◌, true, false};
 ghost use Rattle.chip.specs.State.{named, join, with_named, index_byte, index_of, with_index};
 ghost use Rattle.chip.specs.Names.{received};
-ghost use Rattle.chip.specs.Access.{answer_number, access_table, untold as untoldOf, told, write_to, read_from, port_written, port_read};
+ghost use Rattle.chip.specs.Access.{answer_number, access_table, untold as untoldOf, told, seen as seenOf, write_to, read_from, port_written, port_read};
 ghost use Rattle.chip.specs.Differ.{differ};
 ghost use Rattle.chip.specs.View.{view, view_wrote, view_seen};
 
@@ -11,46 +11,47 @@ use crate::Chip;
 use chip_ports::{Target, leads_to};
 use chip_registers::{Group, index_kept};
 
-// How an access ended.
+// Why an access is refused: its port is not listed in that direction, or the ports are closed.
 #[derive(Clone, Copy)]
-pub enum Answer {
-    Done,
+pub enum AccessError {
     Unlisted,
     Closed,
 }
 
 // What a port write hands back: the register's byte before and after it, FFh twice where it is refused or is of no
-// register's data, and whether it changed a register or a colour.
+// register's data, and whether it changed a register or a colour. FFh is what document 02, P6, has there, and `untold` of
+// specs/Access.
 #[derive(Clone, Copy)]
 pub struct Wrote {
-    pub answer: Answer,
+    pub answer: Result<(), AccessError>,
     pub before: u8,
     pub after: u8,
     pub changed: bool,
     pub chip: Chip,
 }
 
-// What a port read hands back; the value is FFh where it is refused.
+// What a port read hands back; the value is FFh where it is refused. It stands beside the answer and not in it, since a refused
+// read has it too: `read_from` and `port_read` of specs/Access.
 #[derive(Clone, Copy)]
 pub struct Seen {
-    pub answer: Answer,
+    pub answer: Result<(), AccessError>,
     pub value: u8,
     pub chip: Chip,
 }
 
-// Document 01's number of an answer.
-pub fn number(a: Answer) -> u8
+// Document 01's number of an answer: a function by name and no `From`, as `answer_number`, which its clause cites.
+pub fn number(a: Result<(), AccessError>) -> u8
     ensures { result ≡ answer_number a }
 {
     match a {
-        Answer::Done => 0,
-        Answer::Unlisted => 1,
-        Answer::Closed => 2,
+        Ok(()) => 0,
+        Err(AccessError::Unlisted) => 1,
+        Err(AccessError::Closed) => 2,
     }
 }
 
 // A write that changes no register and no colour, and tells of none.
-pub fn untold(answer: Answer, chip: Chip) -> Wrote
+pub fn untold(answer: Result<(), AccessError>, chip: Chip) -> Wrote
     ensures { (view_wrote result ≡ untoldOf answer (view chip)) × (result.changed ≡ false) }
 {
     Wrote {
@@ -62,8 +63,20 @@ pub fn untold(answer: Answer, chip: Chip) -> Wrote
     }
 }
 
+// What a read hands back.
+fn gives(answer: Result<(), AccessError>, value: u8, chip: Chip) -> Seen
+    ensures { view_seen result ≡ seenOf answer value (view chip) }
+{
+    Seen {
+        answer,
+        value,
+        chip,
+    }
+}
+
 impl Chip {
     // The byte that holds a group's index; MSR and PALMASK have none, and stand at 0.
+    #[tactic(auto, unfolding(crate::specs::View::view))]
     fn index_byte(self, g: Group) -> u8
         ensures { result ≡ index_byte g (view self).indexes }
     {
@@ -74,8 +87,7 @@ impl Chip {
             Group::Xr => self.indexes.xr,
             Group::Fr => self.indexes.fr,
             Group::Mr => self.indexes.mr,
-            Group::Msr => 0x00,
-            Group::Palmask => 0x00,
+            Group::Msr | Group::Palmask => 0x00,
             Group::Ar => self.indexes.ar,
         }
     }
@@ -88,6 +100,7 @@ impl Chip {
     }
 
     // The state after a group's index is written: it keeps the bits that its index register has.
+    #[tactic(auto, unfolding(crate::specs::View::view))]
     pub fn with_index(mut self, g: Group, v: u8) -> Chip
         ensures { view result ≡ join (named (view self)) (with_index g (view self).indexes v) (view self).loading }
     {
@@ -99,8 +112,7 @@ impl Chip {
             Group::Xr => self.indexes.xr = kept,
             Group::Fr => self.indexes.fr = kept,
             Group::Mr => self.indexes.mr = kept,
-            Group::Msr => {}
-            Group::Palmask => {}
+            Group::Msr | Group::Palmask => {}
             Group::Ar => self.indexes.ar = kept,
         }
         self
@@ -115,7 +127,7 @@ impl Chip {
         let next = self.put(g, i, v);
         let after = next.get(g, i);
         Wrote {
-            answer: Answer::Done,
+            answer: Ok(()),
             before,
             after,
             changed: before != after,
@@ -125,22 +137,18 @@ impl Chip {
 
     // A byte written where a port leads.
     fn write_to(self, t: Target, v: u8) -> Wrote
-        ensures result_value { view_wrote result ≡ write_to t (view self) v }
-        ensures changed_value { result.changed ≡ differ (view self) (write_to t (view self) v).chip }
+        ensures shown { view_wrote result ≡ write_to t (view self) v }
+        ensures counted { result.changed ≡ differ (view self) (write_to t (view self) v).chip }
     {
         match t {
-            Target::Index(g) => untold(Answer::Done, self.with_index(g, v)),
+            Target::Index(g) => untold(Ok(()), self.with_index(g, v)),
             Target::Data(g) => self.write_data(g, self.index(g), v),
-            Target::ReadIndex => untold(Answer::Done, self.with_loading(self.loading.aim(v, true))),
-            Target::WriteIndex => untold(
-                Answer::Done,
-                self.with_loading(self.loading.aim(v, false)),
-            ),
+            Target::ReadIndex => untold(Ok(()), self.with_loading(self.loading.aim(v, true))),
+            Target::WriteIndex => untold(Ok(()), self.with_loading(self.loading.aim(v, false))),
             Target::Paldata => self.write_colour(v),
             Target::Attribute => self.write_attribute(v),
-            Target::Status => untold(Answer::Unlisted, self),
-            Target::NotPicked => untold(Answer::Done, self),
-            Target::NotListed => untold(Answer::Unlisted, self),
+            Target::NotPicked => untold(Ok(()), self),
+            Target::Status | Target::NotListed => untold(Err(AccessError::Unlisted), self),
         }
     }
 
@@ -151,7 +159,7 @@ impl Chip {
         ensures changed_value { result.changed ≡ differ (view self) (port_written (view self) port v).chip }
     {
         if !self.is_open() {
-            return untold(Answer::Closed, self);
+            return untold(Err(AccessError::Closed), self);
         }
         self.write_to(leads_to(self.picks_3dx(), true, port), v)
     }
@@ -161,51 +169,19 @@ impl Chip {
         ensures { view_seen result ≡ read_from t (view self) }
     {
         match t {
-            Target::Index(g) => Seen {
-                answer: Answer::Done,
-                value: self.index(g),
-                chip: self,
-            },
-            Target::Data(g) => Seen {
-                answer: Answer::Done,
-                value: self.get(g, self.index(g)),
-                chip: self,
-            },
-            Target::ReadIndex => Seen {
-                answer: Answer::Done,
-                value: self.palstate(),
-                chip: self,
-            },
-            Target::WriteIndex => Seen {
-                answer: Answer::Done,
-                value: self.loading.index,
-                chip: self,
-            },
-            Target::Paldata => Seen {
-                answer: Answer::Done,
-                value: self.paldata(),
-                chip: self.with_loading(self.loading.move_on()),
-            },
-            Target::Attribute => Seen {
-                answer: Answer::Done,
-                value: self.attribute_index(),
-                chip: self,
-            },
-            Target::Status => Seen {
-                answer: Answer::Done,
-                value: 0x00,
-                chip: self.with_turn(false),
-            },
-            Target::NotPicked => Seen {
-                answer: Answer::Done,
-                value: 0xFF,
-                chip: self,
-            },
-            Target::NotListed => Seen {
-                answer: Answer::Unlisted,
-                value: 0xFF,
-                chip: self,
-            },
+            Target::Index(g) => gives(Ok(()), self.index(g), self),
+            Target::Data(g) => gives(Ok(()), self.get(g, self.index(g)), self),
+            Target::ReadIndex => gives(Ok(()), self.palstate(), self),
+            Target::WriteIndex => gives(Ok(()), self.loading.index, self),
+            Target::Paldata => gives(
+                Ok(()),
+                self.paldata(),
+                self.with_loading(self.loading.move_on()),
+            ),
+            Target::Attribute => gives(Ok(()), self.attribute_index(), self),
+            Target::Status => gives(Ok(()), 0x00, self.with_turn(false)),
+            Target::NotPicked => gives(Ok(()), 0xFF, self),
+            Target::NotListed => gives(Err(AccessError::Unlisted), 0xFF, self),
         }
     }
 
@@ -215,11 +191,7 @@ impl Chip {
         ensures answer_value { answer_number result.answer ≡ access_table false (view self) port }
     {
         if !self.is_open() {
-            return Seen {
-                answer: Answer::Closed,
-                value: 0xFF,
-                chip: self,
-            };
+            return gives(Err(AccessError::Closed), 0xFF, self);
         }
         self.read_from(leads_to(self.picks_3dx(), false, port))
     }

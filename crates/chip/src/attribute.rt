@@ -8,7 +8,7 @@ ghost use Rattle.chip.specs.Differ.{differ};
 ghost use Rattle.chip.specs.View.{view, view_wrote};
 
 use crate::Chip;
-use crate::access::{Answer, Wrote, untold};
+use crate::access::{Wrote, untold};
 use chip_registers::Group;
 
 impl Chip {
@@ -21,6 +21,7 @@ impl Chip {
     }
 
     // The state with another turn: at data, or at the index.
+    #[tactic(auto, unfolding(crate::specs::View::view))]
     pub fn with_turn(mut self, turn: bool) -> Chip
         ensures { view result ≡ with_indexes (view self) (with_turn (view self).indexes turn) }
     {
@@ -38,17 +39,13 @@ impl Chip {
 
     // The register at the attribute index receives a byte: an index comes next.
     fn set_attribute(self, v: u8) -> Wrote
-        ensures result_value { view_wrote result ≡ told Group.Ar (index_of Group.Ar (view self).indexes) (view self) (attribute_set (view self) v) }
-        ensures changed_value { result.changed ≡ differ (view self) (attribute_set (view self) v) }
+        ensures shown { view_wrote result ≡ told Group.Ar (index_of Group.Ar (view self).indexes) (view self) (attribute_set (view self) v) }
+        ensures counted { result.changed ≡ differ (view self) (attribute_set (view self) v) }
     {
         let w = self.write_data(Group::Ar, self.index(Group::Ar), v);
-        let next = w.chip;
         Wrote {
-            answer: Answer::Done,
-            before: w.before,
-            after: w.after,
-            changed: w.changed,
-            chip: next.with_turn(false),
+            chip: w.chip.with_turn(false),
+            ..w
         }
     }
 
@@ -60,6 +57,6 @@ impl Chip {
         if self.indexes.turn {
             return self.set_attribute(v);
         }
-        untold(Answer::Done, self.aim_attribute(v))
+        untold(Ok(()), self.aim_attribute(v))
     }
 }

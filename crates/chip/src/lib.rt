@@ -4,13 +4,13 @@
 // `put_colour` the palette; everything else asks for a register or a colour.
 #![tactic(auto)]
 
-ghost use Rattle.std.specs.Prelude.{◌≡◌, ◌≤◌, if◌then◌else◌};
+ghost use Rattle.std.specs.Prelude.{◌≡◌, ◌<◌, ◌≤◌, if◌then◌else◌, Some, None, IfSome};
 ghost use Rattle.chip_registers.specs.Groups.{is_indexed};
 ghost use Rattle.chip_registers.specs.Row.{before, slot_of, row_size};
 ghost use Rattle.chip.specs.State.{named, with_named};
 ghost use Rattle.chip.specs.Names.{register, locked as lockedOf, received, ports_open, picks3_dx, eight_bit};
 ghost use Rattle.chip.specs.Reset.{reset_byte, reset as reset_of};
-ghost use Rattle.chip.specs.View.{view, number_at, Filled};
+ghost use Rattle.chip.specs.View.{view, place_at, Filled};
 
 use chip_masks::standing;
 use chip_registers::{Group, group_at, locked_by, reset_byte, writable_now, write};
@@ -23,7 +23,7 @@ pub mod palette;
 const ROW: usize = 275;
 
 // A palette entry: three bytes.
-#[derive(Clone, Copy)]
+#[derive(Clone, Copy, Default, PartialEq, Eq)]
 pub struct Rgb {
     pub red: u8,
     pub green: u8,
@@ -32,7 +32,7 @@ pub struct Rgb {
 
 // The seven index registers, of the attribute index the low five bits, and the turn of 3C0h: whether data comes
 // next.
-#[derive(Clone, Copy)]
+#[derive(Clone, Copy, Default)]
 pub struct Indexes {
     pub cr: u8,
     pub sr: u8,
@@ -46,7 +46,8 @@ pub struct Indexes {
 
 // The palette's index and loading state: the position (0 red, 1 green, 2 blue; any other counts as
 // red, HOUSE), the bytes held at red and at green, and whether the read index was written last (PALSTATE).
-#[derive(Clone, Copy)]
+// The position stays a byte: `component`, `held` and `moved` of specs/Palette say what each of its values means.
+#[derive(Clone, Copy, Default)]
 pub struct Loading {
     pub index: u8,
     pub position: u8,
@@ -59,7 +60,7 @@ pub struct Loading {
 // (document 02, P7). The picture is bit 5 of the attribute index.
 #[derive(Clone, Copy)]
 pub struct Chip {
-    pub row: [u8; 275],
+    pub row: [u8; ROW],
     pub msr: u8,
     pub palmask: u8,
     pub picture: bool,
@@ -70,6 +71,7 @@ pub struct Chip {
 
 // The byte that a reset leaves in an XR register, where the pins are seen: XR70 is the first pin byte
 // with bit 0 made 1, XR71 the second, and XR08 bit 1 shows pin CFG1, bit 1 of the first.
+#[tactic(auto, unfolding(crate::specs::Reset::reset_byte))]
 fn pinned(i: u8, first: u8, second: u8) -> u8
     ensures { result ≡ reset_byte first second Group.Xr i }
 {
@@ -87,59 +89,53 @@ pub fn after_reset(g: Group, i: u8, first: u8, second: u8) -> u8
 {
     match g {
         Group::Xr => pinned(i, first, second),
-        Group::Cr => reset_byte(g, i),
-        Group::Sr => reset_byte(g, i),
-        Group::Gr => reset_byte(g, i),
-        Group::Fr => reset_byte(g, i),
-        Group::Mr => reset_byte(g, i),
-        Group::Msr => reset_byte(g, i),
-        Group::Palmask => reset_byte(g, i),
-        Group::Ar => reset_byte(g, i),
+        _ => reset_byte(g, i),
     }
 }
 
-// Where a group's registers start in the row; 275 for MSR and PALMASK, which stand in fields of their own.
-fn first_of(g: Group) -> usize
-    ensures { (result ≡ (if is_indexed g then before g else row_size)) × (result ≤ row_size) }
+// Where a group's registers start in the row; none for MSR and PALMASK, which stand in fields of their own.
+fn first_of(g: Group) -> Option<usize>
+    ensures start { result ≡ (if is_indexed g then Some (before g) else None) }
+    ensures within { IfSome result (λ k. k ≤ row_size) }
 {
     match g {
-        Group::Cr => 0,
-        Group::Sr => 44,
-        Group::Gr => 50,
-        Group::Xr => 59,
-        Group::Fr => 147,
-        Group::Mr => 199,
-        Group::Msr => ROW,
-        Group::Palmask => ROW,
-        Group::Ar => 254,
+        Group::Cr => Some(0),
+        Group::Sr => Some(44),
+        Group::Gr => Some(50),
+        Group::Xr => Some(59),
+        Group::Fr => Some(147),
+        Group::Mr => Some(199),
+        Group::Msr | Group::Palmask => None,
+        Group::Ar => Some(254),
     }
 }
 
-// Where a register stands in the row; 275, which is no place, for an index that is not listed, MSR and PALMASK.
-fn place_of(g: Group, i: u8) -> usize
-    ensures { result ≡ number_at (slot_of g i) }
+// Where a register stands in the row; nowhere for an index that is not listed, MSR and PALMASK.
+fn place_of(g: Group, i: u8) -> Option<usize>
+    ensures place { result ≡ place_at (slot_of g i) }
+    ensures within { IfSome result (λ k. k < row_size) }
 {
+    let first = first_of(g)?;
     let e = standing(g, i);
     if e < 128 {
-        return ROW;
+        None
+    } else {
+        Some(first + (e - 128) as usize)
     }
-    first_of(g) + (e - 128) as usize
 }
 
 // The row after a reset: each name's byte at its place.
-fn fill(first: u8, second: u8) -> [u8; 275]
+fn fill(first: u8, second: u8) -> [u8; ROW]
     ensures { Filled first second result }
 {
-    let mut row = [0u8; 275];
-    let mut n: usize = 0;
-    while n < 2304 {
-        let g = group_at((n / 256) as u8);
-        let i = (n % 256) as u8;
-        let at = place_of(g, i);
-        if at < ROW {
-            row[at] = after_reset(g, i, first, second);
+    let mut row = [0; ROW];
+    for k in 0..9 {
+        let g = group_at(k);
+        for i in 0..=255 {
+            if let Some(at) = place_of(g, i) {
+                row[at] = after_reset(g, i, first, second);
+            }
         }
-        n += 1;
     }
     row
 }
@@ -156,37 +152,14 @@ impl Chip {
     pub fn new(first: u8, second: u8) -> Chip
         ensures { view result ≡ reset_of first second }
     {
-        let row = fill(first, second);
-        let msr = after_reset(Group::Msr, 0, first, second);
-        let palmask = after_reset(Group::Palmask, 0, first, second);
-        let black = Rgb {
-            red: 0,
-            green: 0,
-            blue: 0,
-        };
         Chip {
-            row,
-            msr,
-            palmask,
+            row: fill(first, second),
+            msr: after_reset(Group::Msr, 0, first, second),
+            palmask: after_reset(Group::Palmask, 0, first, second),
             picture: false,
-            palette: [black; 256],
-            indexes: Indexes {
-                cr: 0,
-                sr: 0,
-                gr: 0,
-                xr: 0,
-                fr: 0,
-                mr: 0,
-                ar: 0,
-                turn: false,
-            },
-            loading: Loading {
-                index: 0,
-                position: 0,
-                red: 0,
-                green: 0,
-                reading: false,
-            },
+            indexes: Indexes::default(),
+            loading: Loading::default(),
+            palette: [Rgb::default(); 256],
         }
     }
 
@@ -194,20 +167,13 @@ impl Chip {
     pub fn get(self, g: Group, i: u8) -> u8
         ensures { result ≡ register g (named (view self)) i }
     {
-        let at = place_of(g, i);
-        if at < ROW {
+        if let Some(at) = place_of(g, i) {
             return self.row[at];
         }
         match g {
-            Group::Cr => 0x00,
-            Group::Sr => 0x00,
-            Group::Gr => 0x00,
-            Group::Xr => 0x00,
-            Group::Fr => 0x00,
-            Group::Mr => 0x00,
             Group::Msr => self.msr,
             Group::Palmask => self.palmask,
-            Group::Ar => 0x00,
+            _ => 0x00,
         }
     }
 
@@ -223,26 +189,19 @@ impl Chip {
         ensures { view result ≡ with_named (view self) (received g (named (view self)) i v) }
     {
         let mask = writable_now(g, self.locked(g), i);
-        let at = place_of(g, i);
-        if at < ROW {
+        if let Some(at) = place_of(g, i) {
             self.row[at] = write(self.row[at], v, mask);
             return self;
         }
         match g {
-            Group::Cr => {}
-            Group::Sr => {}
-            Group::Gr => {}
-            Group::Xr => {}
-            Group::Fr => {}
-            Group::Mr => {}
             Group::Msr => self.msr = write(self.msr, v, mask),
             Group::Palmask => self.palmask = write(self.palmask, v, mask),
-            Group::Ar => {}
+            _ => {}
         }
         self
     }
 
-    // Whether the ports answer: pin CFG1.
+    // Whether the ports answer: pin CFG1. This and the next two are a bit each, under the names that the databook gives them.
     pub fn is_open(self) -> bool
         ensures { result ≡ ports_open (named (view self)) }
     {

@@ -7,19 +7,19 @@ ghost use Rattle.chip.specs.Differ.{same_colour, differ};
 ghost use Rattle.chip.specs.View.{view, view_wrote};
 ghost use Rattle.chip_ports.specs.declared.Target.TheVariants.{Paldata};
 
-use crate::access::{Answer, Wrote};
+use crate::access::Wrote;
 use crate::{Chip, Loading, Rgb};
 use chip_registers::Group;
 
 // A component as a mode stores and reads it: whole, or modulo 64.
-fn by_mode(eight: bool, v: u8) -> u8
+pub fn by_mode(eight: bool, v: u8) -> u8
     ensures { result ≡ by_mode eight v }
 {
     if eight { v } else { v % 64 }
 }
 
 // A component as it is shown.
-fn bright(eight: bool, v: u8) -> u8
+pub fn bright(eight: bool, v: u8) -> u8
     ensures { result ≡ brightOf eight v }
 {
     if eight { v } else { v % 64 * 4 }
@@ -29,20 +29,18 @@ fn bright(eight: bool, v: u8) -> u8
 fn component(e: Rgb, position: u8) -> u8
     ensures { result ≡ componentOf e position }
 {
-    if position == 2 {
-        return e.blue;
+    match position {
+        2 => e.blue,
+        1 => e.green,
+        _ => e.red,
     }
-    if position == 1 {
-        return e.green;
-    }
-    e.red
 }
 
 // Whether two entries are the same.
 pub fn is_same(a: Rgb, b: Rgb) -> bool
     ensures { result ≡ same_colour a b }
 {
-    (a.red == b.red) & (a.green == b.green) & (a.blue == b.blue)
+    a == b
 }
 
 impl Loading {
@@ -53,9 +51,8 @@ impl Loading {
         Loading {
             index: v,
             position: 0,
-            red: self.red,
-            green: self.green,
             reading,
+            ..self
         }
     }
 
@@ -63,15 +60,11 @@ impl Loading {
     pub fn hold(mut self, v: u8) -> Loading
         ensures { result ≡ held self v }
     {
-        let p = self.position;
-        if p == 2 {
-            return self;
+        match self.position {
+            2 => {}
+            1 => self.green = v,
+            _ => self.red = v,
         }
-        if p == 1 {
-            self.green = v;
-            return self;
-        }
-        self.red = v;
         self
     }
 
@@ -79,18 +72,14 @@ impl Loading {
     pub fn move_on(mut self) -> Loading
         ensures { result ≡ moved self }
     {
-        let p = self.position;
-        if p == 2 {
-            let next = std::num::wrapping_add_u8(self.index, 1);
-            self.index = next;
-            self.position = 0;
-            return self;
+        match self.position {
+            2 => {
+                self.index = self.index.wrapping_add(1);
+                self.position = 0;
+            }
+            1 => self.position = 2,
+            _ => self.position = 1,
         }
-        if p == 1 {
-            self.position = 2;
-            return self;
-        }
-        self.position = 1;
         self
     }
 }
@@ -100,8 +89,7 @@ impl Chip {
     pub fn entry(self, e: u8) -> Rgb
         ensures { result ≡ entry_of (named (view self)) e }
     {
-        let at = e as usize;
-        self.palette[at]
+        self.palette[e as usize]
     }
 
     // The state after a colour is stored at an entry, by the mode of this moment.
@@ -109,14 +97,10 @@ impl Chip {
         ensures { view result ≡ with_named (view self) (coloured (named (view self)) e red green blue) }
     {
         let eight = self.is_eight_bit();
-        let at = e as usize;
-        let r = by_mode(eight, red);
-        let g = by_mode(eight, green);
-        let b = by_mode(eight, blue);
-        self.palette[at] = Rgb {
-            red: r,
-            green: g,
-            blue: b,
+        self.palette[e as usize] = Rgb {
+            red: by_mode(eight, red),
+            green: by_mode(eight, green),
+            blue: by_mode(eight, blue),
         };
         self
     }
@@ -135,8 +119,7 @@ impl Chip {
     {
         let l = self.loading;
         let next = l.hold(v).move_on();
-        let p = l.position;
-        if p == 2 {
+        if l.position == 2 {
             return self
                 .put_colour(l.index, l.red, l.green, v)
                 .with_loading(next);
@@ -150,19 +133,18 @@ impl Chip {
         ensures changed_value { result.changed ≡ differ (view self) (write_to Paldata (view self) v).chip }
     {
         let e = self.loading.index;
-        let before = self.entry(e);
         let next = self.load(v);
-        let after = next.entry(e);
         Wrote {
-            answer: Answer::Done,
+            answer: Ok(()),
             before: 0xFF,
             after: 0xFF,
-            changed: !is_same(before, after),
+            changed: self.entry(e) != next.entry(e),
             chip: next,
         }
     }
 
     // What PALSTATE reads: which of the two indexes was written last.
+    #[tactic(auto, unfolding(crate::specs::View::view))]
     pub fn palstate(self) -> u8
         ensures { result ≡ palstateOf (view self).loading }
     {
@@ -183,13 +165,10 @@ impl Chip {
     {
         let eight = self.is_eight_bit();
         let e = self.entry(pixel & self.get(Group::Palmask, 0x00));
-        let r = bright(eight, e.red);
-        let g = bright(eight, e.green);
-        let b = bright(eight, e.blue);
         Rgb {
-            red: r,
-            green: g,
-            blue: b,
+            red: bright(eight, e.red),
+            green: bright(eight, e.green),
+            blue: bright(eight, e.blue),
         }
     }
 }

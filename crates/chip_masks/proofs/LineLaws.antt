@@ -1,10 +1,16 @@
 -- A register's writable bits, and where it stands in the row, are the byte of its line that its index names: one argument for
 -- both tables and every group.
-use Prim.Native.Nat.{ℕ, zero, suc, ◌+◌, ◌*◌, ◌-◌, ◌/◌, ◌%◌, ◌^◌, ◌<◌, ◌≤◌}
+use Prim.Native.Nat.{ℕ, zero, suc, ◌+◌, ◌*◌, ◌-◌, ◌/◌, ◌%◌, ◌^◌, ◌<◌, ◌≤◌, zero-le}
 use native.Mathlib.Omega.{arith}
 use mathlib.Core.Bool.{Bool, true, false, cond}
 use mathlib.Core.Path.{◌≡◌, refl, ap, sym, ◌∙◌}
+use mathlib.Core.List.{List}
+use lib.Dec.{eqb}
+use lib.ListN.{get_or, length}
 use lib.Pow.{shr-shr}
+use borrow.Author.Tests.{eqb-true}
+use Rattle.lists.specs.Scan.{every}
+use Rattle.lists.proofs.Scan.{every-at}
 use Rattle.chip_registers.specs.Groups.{is_indexed, writable_of}
 use Rattle.chip_registers.specs.declared.Group.{Group}
 use Rattle.chip_registers.specs.Row.{Slot, At, Nowhere, before, slot_of}
@@ -48,6 +54,14 @@ standing-byte g i h = go (is_indexed g) (slot_of g i) refl
 
 pub standing-line : (g : Group) (i : ℕ) → i < 256 → line_of standing_of g (i / 8) / 2 ^ (8 * (7 - i % 8)) % 256 ≡ standing_of g i
 standing-line = in_line standing_of standing-byte
+
+-- what the match on a group's number needs
+pub ruleset in_lines = (writable_line, standing-line)
+
+-- a table that is tested line by line has what the test says at each; f takes a number of a line
+pub table_at_line : {A : Type 0} (lines : List A) (f : A → ℕ) (g : ℕ → ℕ) (d : A) (i k : ℕ)
+    → every (λ j. eqb (f (get_or lines j d)) (g j)) 0 (length lines) ≡ true → i ≡ k → k < length lines → f (get_or lines i d) ≡ g k
+table_at_line lines f g d i k t e h = rw e (eqb-true _ _ (every-at (λ j. eqb (f (get_or lines j d)) (g j)) 0 (length lines) t k zero-le (omega arith)))
 
 -- the number is none of those below n: what a match says in its last arm
 abbrev pub NotBelow : ℕ → ℕ → Type 0

@@ -9,7 +9,7 @@
 #![tactic(auto)]
 
 ghost use Rattle.std.specs.Prelude.{◌≡◌, ◌-◌, ◌*◌, ◌/◌, ◌%◌, ◌^◌, ◌<◌};
-ghost use Rattle.chip_registers.specs.Groups.{group_at, writable_of};
+ghost use Rattle.chip_registers.specs.Groups.{group_at, number_of, writable_of};
 ghost use Rattle.chip_masks.specs.Table.{line_of, standing_of};
 
 use chip_registers::Group;
@@ -24,220 +24,224 @@ struct Line(u64, u64);
 pub struct Entry {
     // The bits that a write can change, a lock apart; none at an unlisted index.
     pub writable: u8,
-    // Where it stands.
+    // Where it stands; 00h and not None at an unlisted index, so that an access does not branch on what is listed (speed).
     pub standing: u8,
 }
 
-// The CRT controller registers, chapter 9. Lines without a register stand there like the others where an index can
-// have all eight bits: of arms without a gap the compiler makes a table.
-fn cr(k: u8) -> Line
-    requires { k < 32 }
-    ensures result_value { result.0 ≡ line_of (λ g i. writable_of g i) Group.Cr k }
-    ensures result_value_2 { result.1 ≡ line_of standing_of Group.Cr k }
+// A line without a register.
+const UNLISTED: Line = Line(0x00, 0x00);
+
+// The CRT controller registers, chapter 9, each line with the index of its first. Lines without a register stand there like
+// the others where an index can have all eight bits.
+static CR: [Line; 32] = [
+    Line(0xFF_FF_FF_7F_FF_FF_FF_FF, 0x80_81_82_83_84_85_86_87), // 00h
+    Line(0x7F_FF_3F_7F_FF_FF_FF_FF, 0x88_89_8A_8B_8C_8D_8E_8F), // 08h
+    Line(0xFF_BF_FF_FF_7F_FF_FF_EF, 0x90_91_92_93_94_95_96_97), // 10h
+    Line(0xFF_00_00_00_00_00_00_00, 0x98_00_00_00_00_00_00_00), // 18h
+    Line(0x00_00_00_00_00_00_00_00, 0x00_00_99_00_00_00_00_00), // 20h
+    UNLISTED, // 28h
+    Line(0x0F_0F_0F_0F_00_00_00_00, 0x9A_9B_9C_9D_00_00_00_00), // 30h
+    Line(0x01_00_00_00_C0_00_00_00, 0x9E_00_00_00_9F_00_00_00), // 38h
+    Line(0x8F_0F_00_00_00_00_00_00, 0xA0_A1_00_00_00_00_00_00), // 40h
+    UNLISTED, // 48h
+    UNLISTED, // 50h
+    UNLISTED, // 58h
+    UNLISTED, // 60h
+    UNLISTED, // 68h
+    Line(0xFF_FF_FF_FF_3F_FF_FF_FF, 0xA2_A3_A4_A5_A6_A7_A8_A9), // 70h
+    Line(0x9F_FF_00_00_00_00_00_00, 0xAA_AB_00_00_00_00_00_00), // 78h
+    UNLISTED, // 80h
+    UNLISTED, // 88h
+    UNLISTED, // 90h
+    UNLISTED, // 98h
+    UNLISTED, // A0h
+    UNLISTED, // A8h
+    UNLISTED, // B0h
+    UNLISTED, // B8h
+    UNLISTED, // C0h
+    UNLISTED, // C8h
+    UNLISTED, // D0h
+    UNLISTED, // D8h
+    UNLISTED, // E0h
+    UNLISTED, // E8h
+    UNLISTED, // F0h
+    UNLISTED, // F8h
+];
+
+// The line of that table that an index is in.
+fn cr(i: u8) -> Line
+    ensures writable_bits { result.0 ≡ line_of (λ g j. writable_of g j) Group.Cr (i / 8) }
+    ensures standing_bytes { result.1 ≡ line_of standing_of Group.Cr (i / 8) }
 {
-    match k {
-        0x00 => Line(0xFF_FF_FF_7F_FF_FF_FF_FF, 0x80_81_82_83_84_85_86_87),
-        0x01 => Line(0x7F_FF_3F_7F_FF_FF_FF_FF, 0x88_89_8A_8B_8C_8D_8E_8F),
-        0x02 => Line(0xFF_BF_FF_FF_7F_FF_FF_EF, 0x90_91_92_93_94_95_96_97),
-        0x03 => Line(0xFF_00_00_00_00_00_00_00, 0x98_00_00_00_00_00_00_00),
-        0x04 => Line(0x00_00_00_00_00_00_00_00, 0x00_00_99_00_00_00_00_00),
-        0x05 => Line(0x00_00_00_00_00_00_00_00, 0x00_00_00_00_00_00_00_00),
-        0x06 => Line(0x0F_0F_0F_0F_00_00_00_00, 0x9A_9B_9C_9D_00_00_00_00),
-        0x07 => Line(0x01_00_00_00_C0_00_00_00, 0x9E_00_00_00_9F_00_00_00),
-        0x08 => Line(0x8F_0F_00_00_00_00_00_00, 0xA0_A1_00_00_00_00_00_00),
-        0x09 => Line(0x00_00_00_00_00_00_00_00, 0x00_00_00_00_00_00_00_00),
-        0x0A => Line(0x00_00_00_00_00_00_00_00, 0x00_00_00_00_00_00_00_00),
-        0x0B => Line(0x00_00_00_00_00_00_00_00, 0x00_00_00_00_00_00_00_00),
-        0x0C => Line(0x00_00_00_00_00_00_00_00, 0x00_00_00_00_00_00_00_00),
-        0x0D => Line(0x00_00_00_00_00_00_00_00, 0x00_00_00_00_00_00_00_00),
-        0x0E => Line(0xFF_FF_FF_FF_3F_FF_FF_FF, 0xA2_A3_A4_A5_A6_A7_A8_A9),
-        0x0F => Line(0x9F_FF_00_00_00_00_00_00, 0xAA_AB_00_00_00_00_00_00),
-        0x10 => Line(0x00_00_00_00_00_00_00_00, 0x00_00_00_00_00_00_00_00),
-        0x11 => Line(0x00_00_00_00_00_00_00_00, 0x00_00_00_00_00_00_00_00),
-        0x12 => Line(0x00_00_00_00_00_00_00_00, 0x00_00_00_00_00_00_00_00),
-        0x13 => Line(0x00_00_00_00_00_00_00_00, 0x00_00_00_00_00_00_00_00),
-        0x14 => Line(0x00_00_00_00_00_00_00_00, 0x00_00_00_00_00_00_00_00),
-        0x15 => Line(0x00_00_00_00_00_00_00_00, 0x00_00_00_00_00_00_00_00),
-        0x16 => Line(0x00_00_00_00_00_00_00_00, 0x00_00_00_00_00_00_00_00),
-        0x17 => Line(0x00_00_00_00_00_00_00_00, 0x00_00_00_00_00_00_00_00),
-        0x18 => Line(0x00_00_00_00_00_00_00_00, 0x00_00_00_00_00_00_00_00),
-        0x19 => Line(0x00_00_00_00_00_00_00_00, 0x00_00_00_00_00_00_00_00),
-        0x1A => Line(0x00_00_00_00_00_00_00_00, 0x00_00_00_00_00_00_00_00),
-        0x1B => Line(0x00_00_00_00_00_00_00_00, 0x00_00_00_00_00_00_00_00),
-        0x1C => Line(0x00_00_00_00_00_00_00_00, 0x00_00_00_00_00_00_00_00),
-        0x1D => Line(0x00_00_00_00_00_00_00_00, 0x00_00_00_00_00_00_00_00),
-        0x1E => Line(0x00_00_00_00_00_00_00_00, 0x00_00_00_00_00_00_00_00),
-        0x1F => Line(0x00_00_00_00_00_00_00_00, 0x00_00_00_00_00_00_00_00),
-        _ => Line(0x00_00_00_00_00_00_00_00, 0x00_00_00_00_00_00_00_00),
-    }
+    CR[usize::from(i / 8)]
 }
 
-// The sequencer registers, chapter 10.
-fn sr(k: u8) -> Line
-    requires { k < 32 }
-    ensures result_value { result.0 ≡ line_of (λ g i. writable_of g i) Group.Sr k }
-    ensures result_value_2 { result.1 ≡ line_of standing_of Group.Sr k }
+// The sequencer registers, chapter 10: a short index has few lines, as a match.
+fn sr(i: u8) -> Line
+    ensures writable_bits { result.0 ≡ line_of (λ g j. writable_of g j) Group.Sr (i / 8) }
+    ensures standing_bytes { result.1 ≡ line_of standing_of Group.Sr (i / 8) }
 {
-    match k {
+    match i / 8 {
         0x00 => Line(0x03_3D_0F_3F_0E_00_00_FF, 0x80_81_82_83_84_00_00_85),
-        _ => Line(0x00_00_00_00_00_00_00_00, 0x00_00_00_00_00_00_00_00),
+        _ => UNLISTED,
     }
 }
 
-// The graphics controller registers, chapter 11.
-fn gr(k: u8) -> Line
-    requires { k < 32 }
-    ensures result_value { result.0 ≡ line_of (λ g i. writable_of g i) Group.Gr k }
-    ensures result_value_2 { result.1 ≡ line_of standing_of Group.Gr k }
+// The graphics controller registers, chapter 11, likewise.
+fn gr(i: u8) -> Line
+    ensures writable_bits { result.0 ≡ line_of (λ g j. writable_of g j) Group.Gr (i / 8) }
+    ensures standing_bytes { result.1 ≡ line_of standing_of Group.Gr (i / 8) }
 {
-    match k {
+    match i / 8 {
         0x00 => Line(0x0F_0F_0F_1F_03_7B_0F_0F, 0x80_81_82_83_84_85_86_87),
         0x01 => Line(0xFF_00_00_00_00_00_00_00, 0x88_00_00_00_00_00_00_00),
-        _ => Line(0x00_00_00_00_00_00_00_00, 0x00_00_00_00_00_00_00_00),
+        _ => UNLISTED,
     }
 }
 
 // The extension registers, chapter 14.
-fn xr(k: u8) -> Line
-    requires { k < 32 }
-    ensures result_value { result.0 ≡ line_of (λ g i. writable_of g i) Group.Xr k }
-    ensures result_value_2 { result.1 ≡ line_of standing_of Group.Xr k }
+static XR: [Line; 32] = [
+    Line(0x00_00_00_00_00_00_00_00, 0x80_81_82_83_84_85_86_00), // 00h
+    Line(0x00_03_37_0D_00_00_7F_00, 0x87_88_89_8A_00_00_8B_00), // 08h
+    UNLISTED, // 10h
+    UNLISTED, // 18h
+    Line(0x3E_00_00_00_00_00_00_00, 0x8C_00_00_00_00_00_00_00), // 20h
+    UNLISTED, // 28h
+    UNLISTED, // 30h
+    UNLISTED, // 38h
+    Line(0xFF_FF_FF_FF_FF_FF_FF_FF, 0x8D_8E_8F_90_91_92_93_94), // 40h
+    Line(0xFF_FF_FF_FF_FF_FF_FF_FF, 0x95_96_97_98_99_9A_9B_9C), // 48h
+    UNLISTED, // 50h
+    UNLISTED, // 58h
+    Line(0x43_7F_9C_9F_00_00_00_02, 0x9D_9E_9F_A0_00_00_00_A1), // 60h
+    UNLISTED, // 68h
+    Line(0x00_00_00_00_00_00_00_00, 0xA2_A3_00_00_00_00_00_00), // 70h
+    UNLISTED, // 78h
+    Line(0xBF_1F_0F_00_00_00_00_00, 0xA4_A5_A6_00_00_00_00_00), // 80h
+    UNLISTED, // 88h
+    UNLISTED, // 90h
+    UNLISTED, // 98h
+    Line(0xFF_FF_FF_3F_FF_87_FF_87, 0xA7_A8_A9_AA_AB_AC_AD_AE), // A0h
+    Line(0xFF_FF_FF_3F_FF_87_FF_87, 0xAF_B0_B1_B2_B3_B4_B5_B6), // A8h
+    UNLISTED, // B0h
+    UNLISTED, // B8h
+    Line(0xFF_FF_00_74_FF_FF_00_74, 0xB7_B8_00_B9_BA_BB_00_BC), // C0h
+    Line(0xFF_FF_00_74_FF_FF_F0_0E, 0xBD_BE_00_BF_C0_C1_C2_C3), // C8h
+    Line(0x7F_01_00_00_00_00_00_00, 0xC4_C5_C6_00_00_00_00_00), // D0h
+    UNLISTED, // D8h
+    Line(0xFF_FF_FF_FF_FF_FF_FF_FF, 0xC7_C8_C9_CA_CB_CC_CD_CE), // E0h
+    Line(0xFF_FF_FF_FF_00_00_00_00, 0xCF_D0_D1_D2_00_00_00_00), // E8h
+    UNLISTED, // F0h
+    Line(0xFF_FF_FF_FF_FF_00_00_00, 0xD3_D4_D5_D6_D7_00_00_00), // F8h
+];
+
+// The line of that table that an index is in.
+fn xr(i: u8) -> Line
+    ensures writable_bits { result.0 ≡ line_of (λ g j. writable_of g j) Group.Xr (i / 8) }
+    ensures standing_bytes { result.1 ≡ line_of standing_of Group.Xr (i / 8) }
 {
-    match k {
-        0x00 => Line(0x00_00_00_00_00_00_00_00, 0x80_81_82_83_84_85_86_00),
-        0x01 => Line(0x00_03_37_0D_00_00_7F_00, 0x87_88_89_8A_00_00_8B_00),
-        0x02 => Line(0x00_00_00_00_00_00_00_00, 0x00_00_00_00_00_00_00_00),
-        0x03 => Line(0x00_00_00_00_00_00_00_00, 0x00_00_00_00_00_00_00_00),
-        0x04 => Line(0x3E_00_00_00_00_00_00_00, 0x8C_00_00_00_00_00_00_00),
-        0x05 => Line(0x00_00_00_00_00_00_00_00, 0x00_00_00_00_00_00_00_00),
-        0x06 => Line(0x00_00_00_00_00_00_00_00, 0x00_00_00_00_00_00_00_00),
-        0x07 => Line(0x00_00_00_00_00_00_00_00, 0x00_00_00_00_00_00_00_00),
-        0x08 => Line(0xFF_FF_FF_FF_FF_FF_FF_FF, 0x8D_8E_8F_90_91_92_93_94),
-        0x09 => Line(0xFF_FF_FF_FF_FF_FF_FF_FF, 0x95_96_97_98_99_9A_9B_9C),
-        0x0A => Line(0x00_00_00_00_00_00_00_00, 0x00_00_00_00_00_00_00_00),
-        0x0B => Line(0x00_00_00_00_00_00_00_00, 0x00_00_00_00_00_00_00_00),
-        0x0C => Line(0x43_7F_9C_9F_00_00_00_02, 0x9D_9E_9F_A0_00_00_00_A1),
-        0x0D => Line(0x00_00_00_00_00_00_00_00, 0x00_00_00_00_00_00_00_00),
-        0x0E => Line(0x00_00_00_00_00_00_00_00, 0xA2_A3_00_00_00_00_00_00),
-        0x0F => Line(0x00_00_00_00_00_00_00_00, 0x00_00_00_00_00_00_00_00),
-        0x10 => Line(0xBF_1F_0F_00_00_00_00_00, 0xA4_A5_A6_00_00_00_00_00),
-        0x11 => Line(0x00_00_00_00_00_00_00_00, 0x00_00_00_00_00_00_00_00),
-        0x12 => Line(0x00_00_00_00_00_00_00_00, 0x00_00_00_00_00_00_00_00),
-        0x13 => Line(0x00_00_00_00_00_00_00_00, 0x00_00_00_00_00_00_00_00),
-        0x14 => Line(0xFF_FF_FF_3F_FF_87_FF_87, 0xA7_A8_A9_AA_AB_AC_AD_AE),
-        0x15 => Line(0xFF_FF_FF_3F_FF_87_FF_87, 0xAF_B0_B1_B2_B3_B4_B5_B6),
-        0x16 => Line(0x00_00_00_00_00_00_00_00, 0x00_00_00_00_00_00_00_00),
-        0x17 => Line(0x00_00_00_00_00_00_00_00, 0x00_00_00_00_00_00_00_00),
-        0x18 => Line(0xFF_FF_00_74_FF_FF_00_74, 0xB7_B8_00_B9_BA_BB_00_BC),
-        0x19 => Line(0xFF_FF_00_74_FF_FF_F0_0E, 0xBD_BE_00_BF_C0_C1_C2_C3),
-        0x1A => Line(0x7F_01_00_00_00_00_00_00, 0xC4_C5_C6_00_00_00_00_00),
-        0x1B => Line(0x00_00_00_00_00_00_00_00, 0x00_00_00_00_00_00_00_00),
-        0x1C => Line(0xFF_FF_FF_FF_FF_FF_FF_FF, 0xC7_C8_C9_CA_CB_CC_CD_CE),
-        0x1D => Line(0xFF_FF_FF_FF_00_00_00_00, 0xCF_D0_D1_D2_00_00_00_00),
-        0x1E => Line(0x00_00_00_00_00_00_00_00, 0x00_00_00_00_00_00_00_00),
-        0x1F => Line(0xFF_FF_FF_FF_FF_00_00_00, 0xD3_D4_D5_D6_D7_00_00_00),
-        _ => Line(0x00_00_00_00_00_00_00_00, 0x00_00_00_00_00_00_00_00),
-    }
+    XR[usize::from(i / 8)]
 }
 
 // The flat panel registers, chapter 15.
-fn fr(k: u8) -> Line
-    requires { k < 32 }
-    ensures result_value { result.0 ≡ line_of (λ g i. writable_of g i) Group.Fr k }
-    ensures result_value_2 { result.1 ≡ line_of standing_of Group.Fr k }
+static FR: [Line; 32] = [
+    Line(0x00_FF_00_1F_FF_BF_07_00, 0x80_81_00_82_83_84_85_00), // 00h
+    Line(0xFF_00_6F_EF_FF_00_00_FF, 0x86_00_87_88_89_00_00_8A), // 08h
+    Line(0xFF_FF_FF_FF_00_00_FF_FF, 0x8B_8C_8D_8E_00_00_8F_90), // 10h
+    Line(0x02_FF_FF_00_00_00_FF_3F, 0x91_92_93_00_00_00_94_95), // 18h
+    Line(0xFF_FF_FF_FF_FF_FF_FF_FF, 0x96_97_98_99_9A_9B_9C_9D), // 20h
+    UNLISTED, // 28h
+    Line(0xFF_FF_FF_FF_FF_FF_FF_F8, 0x9E_9F_A0_A1_A2_A3_A4_A5), // 30h
+    UNLISTED, // 38h
+    Line(0xFF_0F_00_00_00_00_00_00, 0xA6_A7_00_00_00_00_00_00), // 40h
+    Line(0xFF_FF_FF_FF_FF_FF_FF_00, 0xA8_A9_AA_AB_AC_AD_AE_00), // 48h
+    UNLISTED, // 50h
+    UNLISTED, // 58h
+    UNLISTED, // 60h
+    UNLISTED, // 68h
+    Line(0xFF_FF_FF_FF_FF_00_00_00, 0xAF_B0_B1_B2_B3_00_00_00), // 70h
+    UNLISTED, // 78h
+    UNLISTED, // 80h
+    UNLISTED, // 88h
+    UNLISTED, // 90h
+    UNLISTED, // 98h
+    UNLISTED, // A0h
+    UNLISTED, // A8h
+    UNLISTED, // B0h
+    UNLISTED, // B8h
+    UNLISTED, // C0h
+    UNLISTED, // C8h
+    UNLISTED, // D0h
+    UNLISTED, // D8h
+    UNLISTED, // E0h
+    UNLISTED, // E8h
+    UNLISTED, // F0h
+    UNLISTED, // F8h
+];
+
+// The line of that table that an index is in.
+fn fr(i: u8) -> Line
+    ensures writable_bits { result.0 ≡ line_of (λ g j. writable_of g j) Group.Fr (i / 8) }
+    ensures standing_bytes { result.1 ≡ line_of standing_of Group.Fr (i / 8) }
 {
-    match k {
-        0x00 => Line(0x00_FF_00_1F_FF_BF_07_00, 0x80_81_00_82_83_84_85_00),
-        0x01 => Line(0xFF_00_6F_EF_FF_00_00_FF, 0x86_00_87_88_89_00_00_8A),
-        0x02 => Line(0xFF_FF_FF_FF_00_00_FF_FF, 0x8B_8C_8D_8E_00_00_8F_90),
-        0x03 => Line(0x02_FF_FF_00_00_00_FF_3F, 0x91_92_93_00_00_00_94_95),
-        0x04 => Line(0xFF_FF_FF_FF_FF_FF_FF_FF, 0x96_97_98_99_9A_9B_9C_9D),
-        0x05 => Line(0x00_00_00_00_00_00_00_00, 0x00_00_00_00_00_00_00_00),
-        0x06 => Line(0xFF_FF_FF_FF_FF_FF_FF_F8, 0x9E_9F_A0_A1_A2_A3_A4_A5),
-        0x07 => Line(0x00_00_00_00_00_00_00_00, 0x00_00_00_00_00_00_00_00),
-        0x08 => Line(0xFF_0F_00_00_00_00_00_00, 0xA6_A7_00_00_00_00_00_00),
-        0x09 => Line(0xFF_FF_FF_FF_FF_FF_FF_00, 0xA8_A9_AA_AB_AC_AD_AE_00),
-        0x0A => Line(0x00_00_00_00_00_00_00_00, 0x00_00_00_00_00_00_00_00),
-        0x0B => Line(0x00_00_00_00_00_00_00_00, 0x00_00_00_00_00_00_00_00),
-        0x0C => Line(0x00_00_00_00_00_00_00_00, 0x00_00_00_00_00_00_00_00),
-        0x0D => Line(0x00_00_00_00_00_00_00_00, 0x00_00_00_00_00_00_00_00),
-        0x0E => Line(0xFF_FF_FF_FF_FF_00_00_00, 0xAF_B0_B1_B2_B3_00_00_00),
-        0x0F => Line(0x00_00_00_00_00_00_00_00, 0x00_00_00_00_00_00_00_00),
-        0x10 => Line(0x00_00_00_00_00_00_00_00, 0x00_00_00_00_00_00_00_00),
-        0x11 => Line(0x00_00_00_00_00_00_00_00, 0x00_00_00_00_00_00_00_00),
-        0x12 => Line(0x00_00_00_00_00_00_00_00, 0x00_00_00_00_00_00_00_00),
-        0x13 => Line(0x00_00_00_00_00_00_00_00, 0x00_00_00_00_00_00_00_00),
-        0x14 => Line(0x00_00_00_00_00_00_00_00, 0x00_00_00_00_00_00_00_00),
-        0x15 => Line(0x00_00_00_00_00_00_00_00, 0x00_00_00_00_00_00_00_00),
-        0x16 => Line(0x00_00_00_00_00_00_00_00, 0x00_00_00_00_00_00_00_00),
-        0x17 => Line(0x00_00_00_00_00_00_00_00, 0x00_00_00_00_00_00_00_00),
-        0x18 => Line(0x00_00_00_00_00_00_00_00, 0x00_00_00_00_00_00_00_00),
-        0x19 => Line(0x00_00_00_00_00_00_00_00, 0x00_00_00_00_00_00_00_00),
-        0x1A => Line(0x00_00_00_00_00_00_00_00, 0x00_00_00_00_00_00_00_00),
-        0x1B => Line(0x00_00_00_00_00_00_00_00, 0x00_00_00_00_00_00_00_00),
-        0x1C => Line(0x00_00_00_00_00_00_00_00, 0x00_00_00_00_00_00_00_00),
-        0x1D => Line(0x00_00_00_00_00_00_00_00, 0x00_00_00_00_00_00_00_00),
-        0x1E => Line(0x00_00_00_00_00_00_00_00, 0x00_00_00_00_00_00_00_00),
-        0x1F => Line(0x00_00_00_00_00_00_00_00, 0x00_00_00_00_00_00_00_00),
-        _ => Line(0x00_00_00_00_00_00_00_00, 0x00_00_00_00_00_00_00_00),
-    }
+    FR[usize::from(i / 8)]
 }
 
 // The multimedia registers, chapter 16.
-fn mr(k: u8) -> Line
-    requires { k < 32 }
-    ensures result_value { result.0 ≡ line_of (λ g i. writable_of g i) Group.Mr k }
-    ensures result_value_2 { result.1 ≡ line_of standing_of Group.Mr k }
+static MR: [Line; 32] = [
+    Line(0x00_00_FD_FF_FF_F0_F8_FF, 0x80_81_82_83_84_85_86_87), // 00h
+    Line(0x3F_F8_FF_3F_FF_00_FF_07, 0x88_89_8A_8B_8C_00_8D_8E), // 08h
+    Line(0xFF_07_FF_07_FF_07_FF_FF, 0x8F_90_91_92_93_94_95_96), // 10h
+    Line(0xFF_00_00_00_00_00_1F_EB, 0x97_00_00_00_00_00_98_99), // 18h
+    Line(0xFC_00_F8_FF_3F_F8_FF_3F, 0x9A_9B_9C_9D_9E_9F_A0_A1), // 20h
+    Line(0xFF_00_FF_07_FF_07_FF_07, 0xA2_00_A3_A4_A5_A6_A7_A8), // 28h
+    Line(0xFF_07_FC_FC_FF_00_00_00, 0xA9_AA_AB_AC_AD_00_00_00), // 30h
+    Line(0x00_00_00_00_E7_FF_FF_FF, 0x00_00_00_00_AE_AF_B0_B1), // 38h
+    Line(0xFF_FF_FF_00_00_00_00_00, 0xB2_B3_B4_B5_B6_00_00_00), // 40h
+    UNLISTED, // 48h
+    UNLISTED, // 50h
+    UNLISTED, // 58h
+    UNLISTED, // 60h
+    UNLISTED, // 68h
+    UNLISTED, // 70h
+    UNLISTED, // 78h
+    UNLISTED, // 80h
+    UNLISTED, // 88h
+    UNLISTED, // 90h
+    UNLISTED, // 98h
+    UNLISTED, // A0h
+    UNLISTED, // A8h
+    UNLISTED, // B0h
+    UNLISTED, // B8h
+    UNLISTED, // C0h
+    UNLISTED, // C8h
+    UNLISTED, // D0h
+    UNLISTED, // D8h
+    UNLISTED, // E0h
+    UNLISTED, // E8h
+    UNLISTED, // F0h
+    UNLISTED, // F8h
+];
+
+// The line of that table that an index is in.
+fn mr(i: u8) -> Line
+    ensures writable_bits { result.0 ≡ line_of (λ g j. writable_of g j) Group.Mr (i / 8) }
+    ensures standing_bytes { result.1 ≡ line_of standing_of Group.Mr (i / 8) }
 {
-    match k {
-        0x00 => Line(0x00_00_FD_FF_FF_F0_F8_FF, 0x80_81_82_83_84_85_86_87),
-        0x01 => Line(0x3F_F8_FF_3F_FF_00_FF_07, 0x88_89_8A_8B_8C_00_8D_8E),
-        0x02 => Line(0xFF_07_FF_07_FF_07_FF_FF, 0x8F_90_91_92_93_94_95_96),
-        0x03 => Line(0xFF_00_00_00_00_00_1F_EB, 0x97_00_00_00_00_00_98_99),
-        0x04 => Line(0xFC_00_F8_FF_3F_F8_FF_3F, 0x9A_9B_9C_9D_9E_9F_A0_A1),
-        0x05 => Line(0xFF_00_FF_07_FF_07_FF_07, 0xA2_00_A3_A4_A5_A6_A7_A8),
-        0x06 => Line(0xFF_07_FC_FC_FF_00_00_00, 0xA9_AA_AB_AC_AD_00_00_00),
-        0x07 => Line(0x00_00_00_00_E7_FF_FF_FF, 0x00_00_00_00_AE_AF_B0_B1),
-        0x08 => Line(0xFF_FF_FF_00_00_00_00_00, 0xB2_B3_B4_B5_B6_00_00_00),
-        0x09 => Line(0x00_00_00_00_00_00_00_00, 0x00_00_00_00_00_00_00_00),
-        0x0A => Line(0x00_00_00_00_00_00_00_00, 0x00_00_00_00_00_00_00_00),
-        0x0B => Line(0x00_00_00_00_00_00_00_00, 0x00_00_00_00_00_00_00_00),
-        0x0C => Line(0x00_00_00_00_00_00_00_00, 0x00_00_00_00_00_00_00_00),
-        0x0D => Line(0x00_00_00_00_00_00_00_00, 0x00_00_00_00_00_00_00_00),
-        0x0E => Line(0x00_00_00_00_00_00_00_00, 0x00_00_00_00_00_00_00_00),
-        0x0F => Line(0x00_00_00_00_00_00_00_00, 0x00_00_00_00_00_00_00_00),
-        0x10 => Line(0x00_00_00_00_00_00_00_00, 0x00_00_00_00_00_00_00_00),
-        0x11 => Line(0x00_00_00_00_00_00_00_00, 0x00_00_00_00_00_00_00_00),
-        0x12 => Line(0x00_00_00_00_00_00_00_00, 0x00_00_00_00_00_00_00_00),
-        0x13 => Line(0x00_00_00_00_00_00_00_00, 0x00_00_00_00_00_00_00_00),
-        0x14 => Line(0x00_00_00_00_00_00_00_00, 0x00_00_00_00_00_00_00_00),
-        0x15 => Line(0x00_00_00_00_00_00_00_00, 0x00_00_00_00_00_00_00_00),
-        0x16 => Line(0x00_00_00_00_00_00_00_00, 0x00_00_00_00_00_00_00_00),
-        0x17 => Line(0x00_00_00_00_00_00_00_00, 0x00_00_00_00_00_00_00_00),
-        0x18 => Line(0x00_00_00_00_00_00_00_00, 0x00_00_00_00_00_00_00_00),
-        0x19 => Line(0x00_00_00_00_00_00_00_00, 0x00_00_00_00_00_00_00_00),
-        0x1A => Line(0x00_00_00_00_00_00_00_00, 0x00_00_00_00_00_00_00_00),
-        0x1B => Line(0x00_00_00_00_00_00_00_00, 0x00_00_00_00_00_00_00_00),
-        0x1C => Line(0x00_00_00_00_00_00_00_00, 0x00_00_00_00_00_00_00_00),
-        0x1D => Line(0x00_00_00_00_00_00_00_00, 0x00_00_00_00_00_00_00_00),
-        0x1E => Line(0x00_00_00_00_00_00_00_00, 0x00_00_00_00_00_00_00_00),
-        0x1F => Line(0x00_00_00_00_00_00_00_00, 0x00_00_00_00_00_00_00_00),
-        _ => Line(0x00_00_00_00_00_00_00_00, 0x00_00_00_00_00_00_00_00),
-    }
+    MR[usize::from(i / 8)]
 }
 
-// The attribute controller registers, chapter 12.
-fn ar(k: u8) -> Line
-    requires { k < 32 }
-    ensures result_value { result.0 ≡ line_of (λ g i. writable_of g i) Group.Ar k }
-    ensures result_value_2 { result.1 ≡ line_of standing_of Group.Ar k }
+// The attribute controller registers, chapter 12, likewise.
+fn ar(i: u8) -> Line
+    ensures writable_bits { result.0 ≡ line_of (λ g j. writable_of g j) Group.Ar (i / 8) }
+    ensures standing_bytes { result.1 ≡ line_of standing_of Group.Ar (i / 8) }
 {
-    match k {
+    match i / 8 {
         0x00 => Line(0x3F_3F_3F_3F_3F_3F_3F_3F, 0x80_81_82_83_84_85_86_87),
         0x01 => Line(0x3F_3F_3F_3F_3F_3F_3F_3F, 0x88_89_8A_8B_8C_8D_8E_8F),
         0x02 => Line(0xEF_FF_3F_0F_0F_00_00_00, 0x90_91_92_93_94_00_00_00),
-        0x03 => Line(0x00_00_00_00_00_00_00_00, 0x00_00_00_00_00_00_00_00),
-        _ => Line(0x00_00_00_00_00_00_00_00, 0x00_00_00_00_00_00_00_00),
+        0x03 => UNLISTED,
+        _ => UNLISTED,
     }
 }
 
@@ -260,17 +264,18 @@ fn entry_of(line: Line, i: u8) -> Entry
 }
 
 // The entry of a register, by the number of its group and its index.
+#[tactic(auto, using(crate::proofs::LineLaws::in_lines), unfolding(chip_registers::specs::Groups::group_at))]
 pub fn entry_at(n: u8, i: u8) -> Entry
     ensures writable_value { result.writable ≡ writable_of (group_at n) i }
     ensures standing_value { result.standing ≡ standing_of (group_at n) i }
 {
     match n {
-        0 => entry_of(cr(i / 8), i),
-        1 => entry_of(sr(i / 8), i),
-        2 => entry_of(gr(i / 8), i),
-        3 => entry_of(xr(i / 8), i),
-        4 => entry_of(fr(i / 8), i),
-        5 => entry_of(mr(i / 8), i),
+        0 => entry_of(cr(i), i),
+        1 => entry_of(sr(i), i),
+        2 => entry_of(gr(i), i),
+        3 => entry_of(xr(i), i),
+        4 => entry_of(fr(i), i),
+        5 => entry_of(mr(i), i),
         6 => Entry {
             writable: 0xEF,
             standing: 0x80,
@@ -279,55 +284,27 @@ pub fn entry_at(n: u8, i: u8) -> Entry
             writable: 0xFF,
             standing: 0x80,
         },
-        _ => entry_of(ar(i / 8), i),
+        _ => entry_of(ar(i), i),
     }
 }
 
-// One part of an entry.
-fn mask_at(n: u8, i: u8) -> u8
-    ensures { result ≡ writable_of (group_at n) i }
+// The number of a group.
+fn number_of(g: Group) -> u8
+    ensures { result ≡ number_of g }
 {
-    let e = entry_at(n, i);
-    e.writable
-}
-
-fn standing_at(n: u8, i: u8) -> u8
-    ensures { result ≡ standing_of (group_at n) i }
-{
-    let e = entry_at(n, i);
-    e.standing
+    g as u8
 }
 
 // The bits that a write can change, by group. As `chip_registers::writable`.
 pub fn writable(g: Group, i: u8) -> u8
     ensures { result ≡ writable_of g i }
 {
-    match g {
-        Group::Cr => mask_at(0, i),
-        Group::Sr => mask_at(1, i),
-        Group::Gr => mask_at(2, i),
-        Group::Xr => mask_at(3, i),
-        Group::Fr => mask_at(4, i),
-        Group::Mr => mask_at(5, i),
-        Group::Msr => mask_at(6, i),
-        Group::Palmask => mask_at(7, i),
-        Group::Ar => mask_at(8, i),
-    }
+    entry_at(number_of(g), i).writable
 }
 
 // Where a register stands, by group.
 pub fn standing(g: Group, i: u8) -> u8
     ensures { result ≡ standing_of g i }
 {
-    match g {
-        Group::Cr => standing_at(0, i),
-        Group::Sr => standing_at(1, i),
-        Group::Gr => standing_at(2, i),
-        Group::Xr => standing_at(3, i),
-        Group::Fr => standing_at(4, i),
-        Group::Mr => standing_at(5, i),
-        Group::Msr => standing_at(6, i),
-        Group::Palmask => standing_at(7, i),
-        Group::Ar => standing_at(8, i),
-    }
+    entry_at(number_of(g), i).standing
 }

@@ -6,7 +6,7 @@ use mathlib.Core.Bool.{true, false}
 use mathlib.Core.Path.{◌≡◌, refl, ap, ◌∙◌}
 use mathlib.Core.List.{List, [], ◌∷◌, ◌++◌}
 use lib.ListN.{length}
-use Rattle.lists.proofs.Tests.{and_both}
+use Rattle.std.proofs.lemmas.Bool.{and_parts}
 use Rattle.chip.specs.State.{Chip, named}
 use Rattle.chip.specs.Names.{ports_open}
 use Rattle.chip.specs.Access.{port_written, port_read}
@@ -17,17 +17,16 @@ use Rattle.script_commands.specs.Command.{bytes_of_all}
 use Rattle.script_commands.specs.Expansion.{ways, set_by, field_by, expanded, commands_of}
 use Rattle.script_commands.specs.declared.Command.{Command}
 use Rattle.script_commands.specs.declared.Command.TheVariants.{Out, In}
-use Rattle.script_commands.specs.declared.CommandRead.TheVariants.{Known}
 use Rattle.script_commands.specs.declared.Ways.{Ways}
 use Rattle.script_commands.specs.declared.Ways.TheVariants.{Pair, Pairs, Direct, Turns, Nowhere}
 use Rattle.chip_run.specs.Run.{one, done, run_from, altering, ran_to, ran}
 use Rattle.chip_run.proofs.RunLaws.{run_commands}
-use Rattle.chip_run.specs.declared.Verdict.TheVariants.{Bad}
 use Rattle.chip_run.specs.declared.Reason.TheVariants.{Closed}
 use Rattle.chip_run.specs.declared.Ending.TheVariants.{Stopped}
 use Rattle.chip_registers.specs.Groups.{group_at}
 use Rattle.chip_play.proofs.Reaching.{Leads, leads}
 use Rattle.chip_play.proofs.Demand3.{AllLegal}
+use Rattle.std.specs.Prelude.{Err, Some}
 
 module _ (c : Chip) (shut : ports_open (named c) ≡ false) where
   -- a list of commands of which the first is refused
@@ -35,7 +34,7 @@ module _ (c : Chip) (shut : ports_open (named c) ≡ false) where
     pub first : Command
     pub others : List Command
     pub whole : cs ≡ first ∷ others
-    pub refused : (one c 0 (Known first)).verdict ≡ Bad Closed
+    pub refused : (one c 0 (Some first)).verdict ≡ Err Closed
 
   -- a run of it stops there, and has changed nothing
   pub stops_run : (cs : List Command) → Stops cs → ran c (bytes_of_all cs) (length cs) ≡ ran_to c 0 0 (Stopped 0 Closed)
@@ -77,7 +76,7 @@ module _ (c : Chip) (shut : ports_open (named c) ≡ false) where
   step_stops : (s : Step) → legal s ≡ true → Stops (expanded s)
   unfolding expanded legal
   step_stops (Set group i v) lawful = set-stops (ways group) i v group (leads true group i lawful)
-  step_stops (Field group i v m) lawful = field_stops (ways group) i _ v group (leads true group i (and_both (names group i) (within v m) lawful).0)
+  step_stops (Field group i v m) lawful = field_stops (ways group) i _ v group (leads true group i (and_parts (names group i) (within v m) lawful).0)
   step_stops (Colour e r g b) lawful = out-stops 0x3C8 e _
 
   pub steps_stop : (ss : List Step) → AllLegal ss → 0 < length ss → Stops (commands_of ss)

@@ -17,14 +17,12 @@ use Rattle.script_steps.specs.declared.Step.{Step}
 use Rattle.script_steps.specs.declared.Step.TheVariants.{Set, Field, Colour}
 use Rattle.script.specs.File.{checked}
 use Rattle.script.proofs.Reading.{accepted-handed}
-use Rattle.script.specs.declared.Checked.TheVariants.{Accepted}
 use Rattle.script_commands.specs.Command.{bytes_of_all}
 use Rattle.script_commands.specs.Expansion.{commands_of}
 use Rattle.script_commands.specs.Translation.{steps_to, commands_to, begins}
 use Rattle.script_commands.proofs.Counted.{steps_split}
 use Rattle.script_commands.proofs.Expanding.{commands_append}
 use Rattle.script_commands.specs.declared.Command.{Command}
-use Rattle.script_commands.specs.declared.CommandRead.{CommandRead}
 use Rattle.chip_run.specs.Run.{Went, altering, Ran, ran_to, handed, reads, ran, of_ending}
 use Rattle.chip_run.proofs.RunLaws.{reads_bytes, Stands}
 use Rattle.chip_run.specs.declared.Ending.TheVariants.{Ended}
@@ -34,6 +32,7 @@ use Rattle.chip_play.proofs.Sends.{Goes, Sends, Is, sends_append, sends_none}
 use Rattle.chip_play.proofs.Running.{run_front, run_whole}
 use Rattle.chip_play.proofs.Reaching.{open_received, open_coloured}
 use Rattle.chip_play.proofs.StepsSent.{indexes_after, step_sent}
+use Rattle.std.specs.Prelude.{Option, Ok}
 
 -- ---- a list of legal steps
 abbrev pub AllLegal : List Step → Type 0
@@ -75,7 +74,7 @@ all_legal-append : (ss ts : List Step) → AllLegal ss → AllLegal ts → AllLe
 all_legal-append [] ts h k = k
 all_legal-append (s ∷ ss) ts h k = (h.0, all_legal-append ss ts h.1 k)
 
-pub steps_legal : (f : List ℕ) (m : ℕ) → checked f ≡ Accepted m → (n : ℕ) → n ≤ m → AllLegal (steps_to f n)
+pub steps_legal : (f : List ℕ) (m : ℕ) → checked f ≡ Ok m → (n : ℕ) → n ≤ m → AllLegal (steps_to f n)
 unfolding steps_to
 steps_legal f m acc zero room = tt
 steps_legal f m acc (suc n) room =
@@ -83,7 +82,7 @@ steps_legal f m acc (suc n) room =
     all_legal-append (steps_to f n) _ (steps_legal f m acc n (omega arith)) (rw h.answer (h.lawful, tt))
 
 -- ---- the run
-module _ (f : List ℕ) (m : ℕ) (acc : checked f ≡ Accepted m) (c : Chip) (free : ports_open (named c) ≡ true) where
+module _ (f : List ℕ) (m : ℕ) (acc : checked f ≡ Ok m) (c : Chip) (free : ports_open (named c) ≡ true) where
   -- the commands of the first n steps go so far
   pub steps_go : (n : ℕ) → n ≤ m → (x : Indexes) × (l : Loading) × (a : ℕ)
       × Goes c 0 (commands_to f n) (join (applied_all (steps_to f n) (named c)) x l) a (steps_changing (steps_to f n) (named c))
@@ -117,7 +116,7 @@ module _ (f : List ℕ) (m : ℕ) (acc : checked f ≡ Accepted m) (c : Chip) (f
       ≡ ran_to (join (applied_all (steps_to f m) (named c)) x l) (begins f m) (altering c 0 (reads (bytes_of_all (commands_to f m)))) Ended)
   whole_run =
       let (x, l, a, h) = steps_go m (omega arith) in
-      (x, l, run_whole c (commands_to f m) h.ends ∙ ap (λ (rs : List CommandRead). ran_to (join (applied_all (steps_to f m) (named c)) x l) (begins f m) (altering c 0 rs) Ended) (sym (reads_bytes (commands_to f m))))
+      (x, l, run_whole c (commands_to f m) h.ends ∙ ap (λ (rs : List (Option Command)). ran_to (join (applied_all (steps_to f m) (named c)) x l) (begins f m) (altering c 0 rs) Ended) (sym (reads_bytes (commands_to f m))))
 
 -- ---- the theorem
 pub demand_3 : Demand3

@@ -62,13 +62,13 @@ pub idle_keeps : (s : Step) (n : Named) → Bytes n → idle s ≡ true → (h :
 unfolding idle applied
 idle_keeps (Set group i v) n bytes e = kept (group_at group) n i _ bytes (eqb-true _ _ e)
 idle_keeps (Field group i v m) n bytes e = kept (group_at group) n i _ bytes (eqb-true _ _ e)
-idle_keeps (Colour entry red green blue) n bytes e = absurd (let z : ◌≡◌ {A = ℕ} 0 1 = cc in omega arith)
+idle_keeps (Colour entry red green blue) n bytes e = cc
 
 pub idle_keeps_colours : (s : Step) (n : Named) → idle s ≡ true → (applied s n).palette ≡ n.palette
 unfolding idle applied
 idle_keeps_colours (Set group i v) n e = received_keeps_colours (group_at group) n i _
 idle_keeps_colours (Field group i v m) n e = received_keeps_colours (group_at group) n i _
-idle_keeps_colours (Colour entry red green blue) n e = absurd (let z : ◌≡◌ {A = ℕ} 0 1 = cc in omega arith)
+idle_keeps_colours (Colour entry red green blue) n e = cc
 
 pub useful_changes : (group i v : ℕ) (n : Named) → idle (Set group i v) ≡ false → locked (group_at group) n ≡ false → Has (group_at group) n i
     → register (group_at group) (applied (Set group i 0xFF) n) i ≡ register (group_at group) (applied (Set group i 0x00) n) i → ⊥

@@ -22,11 +22,11 @@ use Rattle.chip_run.specs.declared.Ran.{Ran as KeptRan}
 use Rattle.chip_play.specs.Matching.{Act, Reset, Write, Read, Run, Play, Said, Nothing, Wrote, Saw, Ran, Became, Gave, gives, gave, KeptGave, KeptAll, none, next, said_by, left_by, SmallerState}
 use Rattle.script.specs.File.{step_count}
 use Rattle.script_commands.specs.Translation.{commands_to, translated}
-use Rattle.script_commands.specs.declared.Translated.{Translated}
-use Rattle.script_commands.specs.declared.Translated.TheVariants.{Commands, Refused}
 use Rattle.chip_play.specs.Played.{Performance, after_translation, played}
 use Rattle.chip_play.specs.View.{view_performance}
 use Rattle.chip_play.specs.declared.Performance.{Performance as KeptPerformance}
+use Rattle.std.specs.Prelude.{Result, Ok, Err}
+use Rattle.script.specs.declared.Refusal.{Refusal}
 
 -- ---- what a contract says is what the theorem takes
 module _ (k : Kept) where
@@ -81,9 +81,9 @@ act_rowable (Read p) c r = read_rowable c p r
 act_rowable (Run bytes limit) c r = run_keeps (λ d. Rowable (named d)) written_rowable read_rowable c bytes limit r
 act_rowable (Play file room) c r = go (translated file room)
   where
-    go : (t : Translated) → Rowable (named (after_translation t (commands_to file (step_count file)) c).chip)
-    go (Commands k) = run_keeps (λ d. Rowable (named d)) written_rowable read_rowable c _ k r
-    go (Refused why) = r
+    go : (t : Result ℕ Refusal) → Rowable (named (after_translation t (commands_to file (step_count file)) c).chip)
+    go (Ok k) = run_keeps (λ d. Rowable (named d)) written_rowable read_rowable c _ k r
+    go (Err why) = r
 
 there : (k : Kept) (a : Act) → (s : Said) × (m : Kept) × KeptGave k a s m
 there k a =

@@ -54,7 +54,7 @@ unfolding picks3_dx received
 cr_steady n i v = refl
 
 false_true : false ≡ true → ⊥
-false_true h = let z : ◌≡◌ {A = ℕ} 0 1 = cc in omega arith
+false_true h = cc
 
 -- an index that a step may name is kept as it is
 selected : (group i : ℕ) → names group i ≡ true → (y : Indexes) → index_of (group_at group) (with_index (group_at group) y i) ≡ i

@@ -15,21 +15,19 @@ use Rattle.lists.proofs.Scan.{first_end}
 use Rattle.lists.proofs.Tests.{units_test}
 use Rattle.script_steps.specs.Step.{bytes_of, step_of, is_good}
 use Rattle.script_steps.specs.declared.Step.{Step}
-use Rattle.script_steps.specs.declared.StepRead.{StepRead}
-use Rattle.script_steps.specs.declared.StepRead.TheVariants.{Good}
 use Rattle.script_steps.proofs.Codec.{read-written, bytes-length}
 use Rattle.script_steps.proofs.Lawful.{Passes, passes_good}
 use Rattle.script.specs.Block.{last_mark, check_word}
 use Rattle.script.specs.File.{step_at, first_bad_step, checked}
 use Rattle.script.specs.Reader.{as_next, next_of}
 use Rattle.script.specs.declared.Layout.TheVariants.{Plain}
-use Rattle.script.specs.declared.Checked.TheVariants.{Accepted}
-use Rattle.script.specs.declared.Next.{Next}
-use Rattle.script.specs.declared.Next.TheVariants.{Found}
 use Rattle.script_writer.specs.Write.{whole_steps, header, places, front, block_of, blocks_to, blocks_for, file_of}
 use Rattle.script_writer.proofs.Back.{accepted_back, next_back}
 use Rattle.script_commands.specs.Translation.{handed, steps_to}
 use Rattle.script_commands.proofs.Counted.{sixes, sixes-append}
+use Rattle.std.specs.Prelude.{Result, Option, Ok, Some}
+use Rattle.script_steps.specs.declared.Fault.{Fault}
+use Rattle.script.specs.declared.Refusal.{Refusal}
 
 -- steps that pass, and steps of bytes
 abbrev pub AllPass : List Step → Type 0
@@ -78,7 +76,7 @@ split (s ∷ ss) good (suc j) h =
 
 module _ (ss : List Step) (some : 1 ≤ length ss) (few : length ss ≤ 1008) (good : AllPass ss) where
   -- each is read where it stands
-  read-there : (before : List Step) (s : Step) (after : List Step) → ss ≡ before ++ s ∷ after → Passes s → step_at Plain (sixes ss) (length before) ≡ Good s
+  read-there : (before : List Step) (s : Step) (after : List Step) → ss ≡ before ++ s ∷ after → Passes s → step_at Plain (sixes ss) (length before) ≡ Ok s
   read-there before s after whole ok =
       ap (λ (l : List Step). step_at Plain (sixes l) (length before)) whole ∙ ap step_of (six-there before s after (length before) refl)
       ∙ read-written s ∙ passes_good s ok
@@ -103,15 +101,15 @@ module _ (ss : List Step) (some : 1 ≤ length ss) (few : length ss ≤ 1008) (g
   all_good : first_bad_step Plain (sixes ss) (length (sixes ss) / 6) ≡ length (sixes ss) / 6
   all_good = first_end (λ j. is_good (step_at Plain (sixes ss) j)) (length (sixes ss) / 6) λ j h. good_there j (omega (arith, many))
 
-  taken : checked file ≡ Accepted (length ss)
-  taken = accepted_back (sixes ss) whole_steps_lem all_good ∙ ap Accepted many
+  taken : checked file ≡ Ok (length ss)
+  taken = accepted_back (sixes ss) whole_steps_lem all_good ∙ ap Ok many
 
   -- the reader hands out each
-  found_there : (before : List Step) (s : Step) (after : List Step) → ss ≡ before ++ s ∷ after → Passes s → next_of file (length before) ≡ Found s
+  found_there : (before : List Step) (s : Step) (after : List Step) → ss ≡ before ++ s ∷ after → Passes s → next_of file (length before) ≡ Ok (Some s)
   found_there before s after whole ok =
       let n : length ss ≡ length before + suc (length after) = ap length whole ∙ length-append before (s ∷ after) in
       next_back (sixes ss) whole_steps_lem all_good (length before) (omega (arith, many))
-      ∙ ap (λ (r : StepRead). as_next r (length before)) (read-there before s after whole ok)
+      ∙ ap (λ (r : Result Step Fault). as_next r (length before)) (read-there before s after whole ok)
 
   steps_from : (before after : List Step) → ss ≡ before ++ after → AllPass after → steps_to file (length before) ≡ before → steps_to file (length ss) ≡ ss
   unfolding steps_to
@@ -122,7 +120,7 @@ module _ (ss : List Step) (some : 1 ≤ length ss) (few : length ss ≤ 1008) (g
       let n : length (before ++ s ∷ []) ≡ suc (length before) = simp length-append (omega arith) in
       steps_from (before ++ s ∷ []) after (whole ∙ sym (append_assoc before (s ∷ []) after)) ok.1
       (ap (λ (k : ℕ). steps_to file k) n ∙ ap (λ (l : List Step). l ++ handed (next_of file (length before))) so_far
-      ∙ ap (λ (x : Next). before ++ handed x) (found_there before s after whole ok.0))
+      ∙ ap (λ (x : Result (Option Step) Refusal). before ++ handed x) (found_there before s after whole ok.0))
 
   these : steps_to file (length ss) ≡ ss
   unfolding steps_to
@@ -170,7 +168,7 @@ bytes-blocks s n (suc k) h b =
 -- ---- to read: for every list of 1 to 1,008 steps that pass there is an accepted file whose steps are that list
 pub record ScriptOf (ss : List Step) : Type 0 where
   pub file : List ℕ
-  pub accepted : checked file ≡ Accepted (length ss)
+  pub accepted : checked file ≡ Ok (length ss)
   pub steps : steps_to file (length ss) ≡ ss
   pub bytes : AllBytes ss → Bytes file
 

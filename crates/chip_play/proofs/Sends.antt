@@ -19,15 +19,14 @@ use Rattle.chip.specs.declared.Indexes.{Indexes}
 use Rattle.chip.specs.declared.Loading.{Loading}
 use Rattle.script_commands.specs.declared.Command.{Command}
 use Rattle.script_commands.specs.declared.Command.TheVariants.{Out, In, Merge, OutAcc}
-use Rattle.script_commands.specs.declared.CommandRead.TheVariants.{Known}
 use Rattle.chip_run.specs.Run.{did, one, done, carry, altering}
-use Rattle.chip_run.specs.declared.Verdict.TheVariants.{Done}
 use Rattle.chip_run.proofs.RunLaws.{carry-append, knowns}
 use Rattle.chip_run.proofs.ChangingLaws.{altering-append}
+use Rattle.std.specs.Prelude.{Ok, Some}
 
 -- commands that are all carried out leave a state and an accumulator, and k of them change a register or a colour
 pub record Goes (c : Chip) (a : ℕ) (cs : List Command) (d : Chip) (b k : ℕ) : Type 0 where
-  pub ends : carry c a (knowns cs) ≡ did Done b d
+  pub ends : carry c a (knowns cs) ≡ did (Ok tt) b d
   pub alters : altering c a (knowns cs) ≡ k
 
 -- one change where a register or a colour differs, else none
@@ -39,7 +38,7 @@ pub ended : {c : Chip} {a : ℕ} → Goes c a [] c a 0
 unfolding carry altering
 ended = record { ends = refl; alters = refl }
 
-pub quietly : {c d e : Chip} {a b z k : ℕ} {x : Command} {cs : List Command} → one c a (Known x) ≡ did Done b d → named d ≡ named c
+pub quietly : {c d e : Chip} {a b z k : ℕ} {x : Command} {cs : List Command} → one c a (Some x) ≡ did (Ok tt) b d → named d ≡ named c
     → Goes d b cs e z k → Goes c a (x ∷ cs) e z k
 unfolding carry altering
 quietly {c} {d} {e} {a} {b} {z} {k} {x} {cs} is same t = record {
@@ -51,7 +50,7 @@ differ-once : (b : Bool) → ◌≡◌ {A = ℕ} (cond (not b) 1 0 + 0) (cond b 
 differ-once true = refl
 differ-once false = refl
 
-pub lastly : {c d : Chip} {a b : ℕ} {x : Command} → one c a (Known x) ≡ did Done b d → Goes c a (x ∷ []) d b (once (named c) (named d))
+pub lastly : {c d : Chip} {a b : ℕ} {x : Command} → one c a (Some x) ≡ did (Ok tt) b d → Goes c a (x ∷ []) d b (once (named c) (named d))
 unfolding carry altering differ
 lastly {c} {d} is = record { ends = rw is refl; alters = rw is (differ-once (same_stored (named c) (named d))) }
 
@@ -71,7 +70,7 @@ At g i x = index_of g x ≡ i
 
 pub knowns-append : (xs ys : List Command) → knowns (xs ++ ys) ≡ knowns xs ++ knowns ys
 knowns-append [] ys = refl
-knowns-append (x ∷ xs) ys = ap (◌∷◌ (Known x)) (knowns-append xs ys)
+knowns-append (x ∷ xs) ys = ap (◌∷◌ (Some x)) (knowns-append xs ys)
 
 -- of two lists one after the other the changes add up
 goes_append : {c d e : Chip} {a b z k j : ℕ} {cs ds : List Command} → Goes c a cs d b k → Goes d b ds e z j → Goes c a (cs ++ ds) e z (k + j)
@@ -103,38 +102,38 @@ sends_none n = record { runs = λ x l a p. (x, l, a, ended, p) }
 
 -- ---- what each kind of command does
 module _ (n : Named) (x : Indexes) (l : Loading) (a : ℕ) (free : ports_open n ≡ true) (b : Bool) (picks : picks3_dx n ≡ b) (p : ℕ) where
-  pub select : (g : Group) (i : ℕ) → target b true p ≡ Index g → one (join n x l) a (Known (Out p i)) ≡ did Done a (join n (with_index g x i) l)
+  pub select : (g : Group) (i : ℕ) → target b true p ≡ Index g → one (join n x l) a (Some (Out p i)) ≡ did (Ok tt) a (join n (with_index g x i) l)
   unfolding one done port_written
   select g i h = rw (free, picks, h)
 
   store : (g : Group) (i v : ℕ) → index_of g x ≡ i → target b true p ≡ Data g
-      → one (join n x l) a (Known (Out p v)) ≡ did Done a (join (received g n i v) x l)
+      → one (join n x l) a (Some (Out p v)) ≡ did (Ok tt) a (join (received g n i v) x l)
   unfolding one done port_written
   store g i v e h = rw (free, picks, h, e)
 
   store_acc : (g : Group) (i : ℕ) → index_of g x ≡ i → target b true p ≡ Data g
-      → one (join n x l) a (Known (OutAcc p)) ≡ did Done a (join (received g n i a) x l)
+      → one (join n x l) a (Some (OutAcc p)) ≡ did (Ok tt) a (join (received g n i a) x l)
   unfolding one done port_written
   store_acc g i e h = rw (free, picks, h, e)
 
   pub fetch : (g : Group) (i : ℕ) → index_of g x ≡ i → target b false p ≡ Data g
-      → one (join n x l) a (Known (In p)) ≡ did Done (read_byte g n i) (join n x l)
+      → one (join n x l) a (Some (In p)) ≡ did (Ok tt) (read_byte g n i) (join n x l)
   unfolding one done port_read
   fetch g i e h = rw (free, picks, h, e)
 
-  pub idle : (v : ℕ) → target b true p ≡ NotPicked → one (join n x l) a (Known (Out p v)) ≡ did Done a (join n x l)
+  pub idle : (v : ℕ) → target b true p ≡ NotPicked → one (join n x l) a (Some (Out p v)) ≡ did (Ok tt) a (join n x l)
   unfolding one done port_written
   idle v h = rw (free, picks, h)
 
-  idle_acc : target b true p ≡ NotPicked → one (join n x l) a (Known (OutAcc p)) ≡ did Done a (join n x l)
+  idle_acc : target b true p ≡ NotPicked → one (join n x l) a (Some (OutAcc p)) ≡ did (Ok tt) a (join n x l)
   unfolding one done port_written
   idle_acc h = rw (free, picks, h)
 
-  pub idle_in : target b false p ≡ NotPicked → one (join n x l) a (Known (In p)) ≡ did Done 0xFF (join n x l)
+  pub idle_in : target b false p ≡ NotPicked → one (join n x l) a (Some (In p)) ≡ did (Ok tt) 0xFF (join n x l)
   unfolding one done port_read
   idle_in h = rw (free, picks, h)
 
-pub merged : (c : Chip) (a k s : ℕ) → one c a (Known (Merge k s)) ≡ did Done (bit_or (bit_and a k) s) c
+pub merged : (c : Chip) (a k s : ℕ) → one c a (Some (Merge k s)) ≡ did (Ok tt) (bit_or (bit_and a k) s) c
 unfolding one done
 merged c a k s = refl
 

@@ -4,7 +4,7 @@ use native.Mathlib.Omega.{arith}
 use mathlib.Core.Bool.{Bool, true, false}
 use mathlib.Core.Path.{◌≡◌, refl, ap, ◌∙◌}
 use lib.Bits.{bit_and, bit_or}
-use Rattle.lists.proofs.Tests.{and_both}
+use Rattle.std.proofs.lemmas.Bool.{and_parts}
 use Rattle.chip_registers.specs.Indexes.{index_kept}
 use Rattle.chip_registers.specs.declared.Group.{Group}
 use Rattle.chip_registers.specs.declared.Group.TheVariants.{Ar}
@@ -20,16 +20,15 @@ use Rattle.script_steps.specs.declared.Step.{Step}
 use Rattle.script_steps.specs.declared.Step.TheVariants.{Set, Field, Colour}
 use Rattle.script_commands.specs.Expansion.{ways, set_by, field_by, expanded}
 use Rattle.script_commands.specs.declared.Command.TheVariants.{Out}
-use Rattle.script_commands.specs.declared.CommandRead.TheVariants.{Known}
 use Rattle.script_commands.specs.declared.Ways.{Ways}
 use Rattle.script_commands.specs.declared.Ways.TheVariants.{Pair, Pairs, Direct, Turns, Nowhere}
 use Rattle.chip_run.specs.Run.{did, one, done}
-use Rattle.chip_run.specs.declared.Verdict.TheVariants.{Done}
 use Rattle.chip_registers.specs.Groups.{group_at}
 use Rattle.chip_play.specs.ByName.{applied}
 use Rattle.chip_play.proofs.Sends.{once, quietly, lastly, Sends, Is, At, sends_append, sends_after, sends_before, selects, stores, changes, passes, skips}
 use Rattle.chip_play.proofs.Turning.{aims, gives, gives-change}
 use Rattle.chip_play.proofs.Reaching.{Leads, leads, open_received}
+use Rattle.std.specs.Prelude.{Ok, Some}
 
 low-kept : (y : Indexes) {i : ℕ} → i < 32 → index_of Ar (with_turn (with_index Ar y i) true) ≡ i
 unfolding index_kept
@@ -90,11 +89,11 @@ module _ (n : Named) (free : ports_open n ≡ true) (g : Group) (i : ℕ) (y : I
 
 -- COLOUR: the write index is written, whatever was half loaded is dropped, and the third byte stores the entry
 module _ (n : Named) (free : ports_open n ≡ true) (x : Indexes) (l : Loading) (a v : ℕ) where
-  aim : one (join n x l) a (Known (Out 0x3C8 v)) ≡ did Done a (join n x (aimed l v false))
+  aim : one (join n x l) a (Some (Out 0x3C8 v)) ≡ did (Ok tt) a (join n x (aimed l v false))
   unfolding one done port_written target ports
   aim = rw free
 
-  load : one (join n x l) a (Known (Out 0x3C9 v)) ≡ did Done a (join (loaded n l v) x (moved (held l v)))
+  load : one (join n x l) a (Some (Out 0x3C9 v)) ≡ did (Ok tt) a (join (loaded n l v) x (moved (held l v)))
   unfolding one done port_written target ports
   load = rw free
 
@@ -122,5 +121,5 @@ pub step_sent : (s : Step) (n : Named) → legal s ≡ true → ports_open n ≡
 unfolding expanded applied legal
 step_sent (Set group i v) n lawful free y = set-sent n free (group_at group) i y v (ways group) (picks3_dx n) refl (leads (picks3_dx n) group i lawful)
 step_sent (Field group i v m) n lawful free y =
-    field_sent n free (group_at group) i y (0xFF - m) v (ways group) (picks3_dx n) refl (leads (picks3_dx n) group i (and_both (names group i) (within v m) lawful).0)
+    field_sent n free (group_at group) i y (0xFF - m) v (ways group) (picks3_dx n) refl (leads (picks3_dx n) group i (and_parts (names group i) (within v m) lawful).0)
 step_sent (Colour e r g b) n lawful free y = colour_sent n free e r g b

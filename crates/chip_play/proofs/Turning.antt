@@ -22,10 +22,9 @@ use Rattle.chip.specs.declared.Loading.{Loading}
 use Rattle.script_commands.specs.Expansion.{turned, change}
 use Rattle.script_commands.specs.declared.Command.{Command}
 use Rattle.script_commands.specs.declared.Command.TheVariants.{Out, In, OutAcc}
-use Rattle.script_commands.specs.declared.CommandRead.TheVariants.{Known}
 use Rattle.chip_run.specs.Run.{did, one, done}
-use Rattle.chip_run.specs.declared.Verdict.TheVariants.{Done}
 use Rattle.chip_play.proofs.Sends.{Goes, once, quietly, lastly, ended, Sends, Is, idle_in, fetch, merged}
+use Rattle.std.specs.Prelude.{Ok, Some}
 
 -- ---- the index that is written: bit 5 of the one that was read, and the register's
 keep_bit : (lit : Bool) (low i : ℕ) → low < 32 → i < 32 → bit_or (bit_and (low + cond lit 0x20 0x00) 0x20) i ≡ cond lit 0x20 0x00 + i
@@ -48,25 +47,25 @@ kept_low false i = omega arith
 
 -- ---- what each kind of command does
 module _ (n : Named) (x : Indexes) (l : Loading) (a : ℕ) (free : ports_open n ≡ true) (b : Bool) (picks : picks3_dx n ≡ b) (p : ℕ) where
-  turn_back : target b false p ≡ Status → one (join n x l) a (Known (In p)) ≡ did Done 0x00 (join n (with_turn x false) l)
+  turn_back : target b false p ≡ Status → one (join n x l) a (Some (In p)) ≡ did (Ok tt) 0x00 (join n (with_turn x false) l)
   unfolding one done port_read
   turn_back h = rw (free, picks, h)
 
-  see_index : target b false p ≡ Attribute → one (join n x l) a (Known (In p)) ≡ did Done (attribute_index (join n x l)) (join n x l)
+  see_index : target b false p ≡ Attribute → one (join n x l) a (Some (In p)) ≡ did (Ok tt) (attribute_index (join n x l)) (join n x l)
   unfolding one done port_read
   see_index h = rw (free, picks, h)
 
-  aim_acc : target b true p ≡ Attribute → x.turn ≡ false → one (join n x l) a (Known (OutAcc p)) ≡ did Done a (attribute_aimed (join n x l) a)
+  aim_acc : target b true p ≡ Attribute → x.turn ≡ false → one (join n x l) a (Some (OutAcc p)) ≡ did (Ok tt) a (attribute_aimed (join n x l) a)
   unfolding one done port_written
   aim_acc h t = rw (free, picks, h, t)
 
   -- a byte to the register, at the turn of data
   module _ (leads : target b true p ≡ Attribute) (turn : x.turn ≡ true) (i : ℕ) (at : index_of Ar x ≡ i) where
-    give : (v : ℕ) → one (join n x l) a (Known (Out p v)) ≡ did Done a (join (received Ar n i v) (with_turn x false) l)
+    give : (v : ℕ) → one (join n x l) a (Some (Out p v)) ≡ did (Ok tt) a (join (received Ar n i v) (with_turn x false) l)
     unfolding one done port_written
     give v = rw (free, picks, leads, turn, at)
 
-    give_acc : one (join n x l) a (Known (OutAcc p)) ≡ did Done a (join (received Ar n i a) (with_turn x false) l)
+    give_acc : one (join n x l) a (Some (OutAcc p)) ≡ did (Ok tt) a (join (received Ar n i a) (with_turn x false) l)
     unfolding one done port_written
     give_acc = rw (free, picks, leads, turn, at)
 
@@ -88,7 +87,7 @@ module _ (n : Named) (free : ports_open n ≡ true) where
     -- the index is written, and the picture stays
     aimed : (x : Indexes) (l : Loading)
         → (let v = cond n.picture 0x20 0x00 + i in
-        one (join n (with_turn x false) l) v (Known (OutAcc p)) ≡ did Done v (join n (with_turn (with_index Ar x i) true) l))
+        one (join n (with_turn x false) l) v (Some (OutAcc p)) ≡ did (Ok tt) v (join n (with_turn (with_index Ar x i) true) l))
     aimed x l =
         aim_acc n (with_turn x false) l _ free b picks p writes refl ∙ rw (kept_picture n.picture i fits, kept_low n.picture i) refl
 
@@ -100,7 +99,7 @@ module _ (n : Named) (free : ports_open n ≡ true) where
         cond n.picture 0x20 0x00 + i,
         both_read b picks x l a _ _ _ _
             (quietly (see_index n (with_turn x false) l _ free b picks p reads) refl
-            (quietly (merged (join n (with_turn x false) l) _ 0x20 i ∙ ap (λ (v : ℕ). did Done v (join n (with_turn x false) l)) (keep_bit n.picture (index_of Ar x) i (low_five x) fits)) refl
+            (quietly (merged (join n (with_turn x false) l) _ 0x20 i ∙ ap (λ (v : ℕ). did (Ok tt) v (join n (with_turn x false) l)) (keep_bit n.picture (index_of Ar x) i (low_five x) fits)) refl
             (quietly (aimed x l) refl ended))),
         ap (λ (t : Indexes). with_turn (with_index Ar t i) true) h,
       );

@@ -9,13 +9,12 @@
 --     script-there : (ss : List Step) → 1 ≤ length ss → length ss ≤ 1008 → AllPass ss → ScriptOf ss
 -- where a `ScriptOf ss` is a file with `checked file ≡ Accepted (length ss)` and `steps_to file (length ss) ≡ ss`.
 -- On lent bytes it is said after each step in specs/Demand3 of crate `lent_play`.
-use Rattle.std.specs.Prelude.{ℕ, ◌≤◌, ◌≡◌, true, List}
+use Rattle.std.specs.Prelude.{ℕ, ◌≤◌, ◌≡◌, true, List, Ok}
 use Rattle.lists.specs.Bits.{is_set}
 use Rattle.chip.specs.State.{Chip, named}
 use Rattle.chip.specs.Reach.{Reach}
 use Rattle.script.specs.File.{checked}
 use Rattle.lists.specs.Numbers.{returned}
-use Rattle.script.specs.declared.Checked.TheVariants.{Accepted}
 use Rattle.script_commands.specs.Command.{bytes_of_all}
 use Rattle.script_commands.specs.Translation.{steps_to, commands_to, begins}
 use Rattle.chip_run.specs.Run.{Ran, ran, of_ending}
@@ -38,6 +37,6 @@ pub record AfterSteps (c : Chip) (file : List ℕ) (m n : ℕ) : Type 0 where
 
 -- for every accepted file, every state that accesses reach from a reset with CFG1 = 1, and every number of its steps
 pub record Demand3 : Type 0 where
-  pub holds : (file : List ℕ) (m : ℕ) → checked file ≡ Accepted m
+  pub holds : (file : List ℕ) (m : ℕ) → checked file ≡ Ok m
       → (first second : ℕ) → is_set 1 first ≡ true → (c : Chip) → Reach first second c
       → (n : ℕ) → n ≤ m → AfterSteps c file m n

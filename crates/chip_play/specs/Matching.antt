@@ -4,7 +4,7 @@
 -- specs/View of crate `chip`). An act is whatever a host can ask of a chip. What the contracts say of an act on what is kept is
 -- `KeptGave`: the struct's row has its 275 bytes, and what is shown and said is what the definitions give from what was shown.
 -- The theorem is `smaller_state`, in proofs/Matching. It looks at no group: one argument for all, AR's included.
-use Rattle.std.specs.Prelude.{ℕ, Bool, ◌≡◌, List, [], ◌∷◌, length}
+use Rattle.std.specs.Prelude.{ℕ, Bool, ◌≡◌, List, [], ◌∷◌, length, Result}
 use Rattle.chip_registers.specs.Row.{row_size}
 use Rattle.chip.specs.State.{Chip}
 use Rattle.chip.specs.Access.{port_written, port_read}
@@ -13,11 +13,12 @@ use Rattle.chip.specs.Reset.{reset}
 use Rattle.chip.specs.Reach.{Reach}
 use Rattle.chip.specs.View.{view, Shows}
 use Rattle.chip.specs.declared.Chip.{Chip as Kept}
-use Rattle.chip.specs.declared.access.Answer.{Answer}
 use Rattle.chip_run.specs.Run.{ran}
 use Rattle.chip_run.specs.declared.Ending.{Ending}
 use Rattle.chip_play.specs.Played.{played}
-use Rattle.chip_play.specs.declared.Outcome.{Outcome}
+use Rattle.chip.specs.declared.access.AccessError.{AccessError}
+use Rattle.chip_run.specs.declared.Tally.{Tally}
+use Rattle.script.specs.declared.Refusal.{Refusal}
 
 -- what a host can ask: a reset with two pin bytes, a port write and read, a run of command bytes up to a limit, and a script file
 -- played with so many bytes lent for its commands
@@ -31,10 +32,10 @@ pub data Act : Type 0 where
 -- what it is told, the state apart
 pub data Said : Type 0 where
   Nothing : Said
-  Wrote : Answer → ℕ → ℕ → Bool → Said
-  Saw : Answer → ℕ → Said
+  Wrote : Result (Unit {0}) AccessError → ℕ → ℕ → Bool → Said
+  Saw : Result (Unit {0}) AccessError → ℕ → Said
   Ran : ℕ → ℕ → Ending → Said
-  Became : Outcome → Said
+  Became : Result Tally Refusal → Said
 
 -- what the old arrangement gives
 pub record Gave : Type 0 where

@@ -2,59 +2,40 @@
 // specs/Demand3 and proved in proofs/Demand3; the entry here carries it.
 #![tactic(auto)]
 
-ghost use Rattle.std.specs.Prelude.{◌≡◌, ◌*◌, min, length};
+ghost use Rattle.std.specs.Prelude.{◌≡◌, length};
 ghost use Rattle.chip.specs.View.{view};
 ghost use Rattle.script_commands.specs.Translation.{translated, left_by};
 ghost use Rattle.chip_play.specs.Played.{run_by, played, ByName, of_outcome, play_table};
 ghost use Rattle.chip_play.specs.View.{view_performance};
 
 use chip::Chip;
-use chip_run::{Ending, run};
+use chip_run::{Tally, run};
 use script::Refusal;
-use script_commands::{Translated, translate};
-
-// What became of a script: it was refused, or its commands were run: so many were carried out, so many of these changed a
-// register or a colour (document 02, P6), and the run ended so.
-#[derive(Clone, Copy)]
-pub enum Outcome {
-    NotPlayed(Refusal),
-    Played(usize, usize, Ending),
-}
+use script_commands::translate;
 
 // The state after a script, and what became of it.
 #[derive(Clone, Copy)]
 pub struct Performance {
     pub chip: Chip,
-    pub outcome: Outcome,
-}
-
-// Where k commands in front of a buffer end, or the buffer does.
-fn front(size: usize, k: usize) -> usize
-    ensures { result ≡ min (4 * k) size }
-{
-    if size / 4 < k {
-        return size;
-    }
-    4 * k
+    pub outcome: Result<Tally, Refusal>,
 }
 
 // What a translation answered, played: its commands, which stand in front of a buffer, are run whole.
-pub fn run_by(chip: Chip, buffer: &[u8], translated: Translated) -> Performance
+pub fn run_by(chip: Chip, buffer: &[u8], translated: Result<usize, Refusal>) -> Performance
     ensures { view_performance result ≡ run_by translated (view chip) buffer.now }
 {
     match translated {
-        Translated::Refused(why) => Performance {
+        Err(why) => Performance {
             chip,
-            outcome: Outcome::NotPlayed(why),
+            outcome: Err(why),
         },
-        Translated::Commands(k) => {
-            let end = front(buffer.len(), k);
+        Ok(k) => {
+            // Four bytes to each command, or the buffer, where it ends before.
+            let end = k.saturating_mul(4).min(buffer.len());
             let ran = run(chip, &buffer[..end], k);
-            let next = ran.chip;
-            let ending = ran.ending;
             Performance {
-                chip: next,
-                outcome: Outcome::Played(ran.count, ran.changing, ending),
+                chip: ran.chip,
+                outcome: Ok(ran.tally()),
             }
         }
     }
@@ -67,6 +48,6 @@ pub fn play(chip: Chip, file: &[u8], buffer: &mut [u8]) -> Performance
     ensures buffer_after { buffer.new ≡ left_by (translated file.now (length buffer.old)) file.now buffer.old }
     ensures outcome_value { of_outcome result.outcome ≡ play_table (view chip) file.now (length buffer.old) }
 {
-    let answer = translate(file, buffer);
-    run_by(chip, buffer, answer)
+    let translated = translate(file, buffer);
+    run_by(chip, buffer, translated)
 }

@@ -1,3 +1,2 @@
--- The laws of this crate: the listed ports and directions, computed, beside document 01's table (PortLaws). The other folder
--- has a function's proof.
+-- The laws of this crate: the listed ports and directions, computed, beside document 01's table (PortLaws).
 pub mod PortLaws

@@ -7,7 +7,7 @@ use mathlib.Core.Path.{◌≡◌, refl, sym, ap, ◌∙◌}
 use mathlib.Core.List.{List, [], ◌∷◌}
 use lib.Dec.{eqb}
 use borrow.Author.Tests.{eqb-true, not-true}
-use Rattle.lists.proofs.Tests.{and_both}
+use Rattle.std.proofs.lemmas.Bool.{and_parts}
 use Rattle.chip_registers.proofs.Stretches.{has}
 use Rattle.chip_registers.specs.declared.Group.TheVariants.{Cr, Sr, Gr, Xr, Fr, Mr, Msr, Palmask, Ar}
 use Rattle.chip_ports.specs.Ports.{Port, ports, target_in, target, is_listed}
@@ -89,7 +89,7 @@ leads_elsewhere : (t : Target → Bool) (ks : List ℕ) (write : Bool) (rs : Lis
     → t (target_in rs write p) ≡ true
 leads_elsewhere t ks write [] p all other = all
 leads_elsewhere t ks write (r ∷ rs) p all other =
-    let (here, others) = and_both (t (r.leads write) || has r.number ks) (holds t ks write rs) all in
+    let (here, others) = and_parts (t (r.leads write) || has r.number ks) (holds t ks write rs) all in
     go (eqb p r.number) refl here (leads_elsewhere t ks write rs p others other)
   where
     row : (z : Bool) → t (r.leads write) ≡ z → p ≡ r.number → (z || has r.number ks) ≡ true → t (r.leads write) ≡ true
@@ -134,7 +134,7 @@ at_each t (k ∷ ks) = t k && at_each t ks
 
 among : (t : ℕ → Bool) (ks : List ℕ) (p : ℕ) → at_each t ks ≡ true → has p ks ≡ true → t p ≡ true
 among t [] p all h = absurd (true≢false (sym h))
-among t (k ∷ ks) p all h = let (here, others) = and_both (t k) (at_each t ks) all in go (eqb p k) refl here (among t ks p others) h
+among t (k ∷ ks) p all h = let (here, others) = and_parts (t k) (at_each t ks) all in go (eqb p k) refl here (among t ks p others) h
   where
     go : (z : Bool) → eqb p k ≡ z → t k ≡ true → (has p ks ≡ true → t p ≡ true) → (z || has p ks) ≡ true → t p ≡ true
     go true e here later u = ap t (eqb-true p k e) ∙ here

@@ -12,8 +12,8 @@ use borrow.Author.Tests.{eqb-true, ltb-true, lt-ltb, leb-true}
 use Rattle.lists.specs.Bits.{bit}
 use Rattle.lists.specs.Scan.{every}
 use Rattle.lists.proofs.Bits.{zero_bit}
-use Rattle.lists.proofs.Tests.{and_both}
-use Rattle.chip_registers.specs.Rows.{Register, row_in}
+use Rattle.std.proofs.lemmas.Bool.{and_parts}
+use Rattle.chip_registers.specs.Rows.{Register, row_in, listed}
 use Rattle.chip_registers.specs.CrtController.{cr_lines}
 use Rattle.chip_registers.specs.Sequencer.{sr_lines}
 use Rattle.chip_registers.specs.Graphics.{gr_lines}
@@ -25,8 +25,8 @@ use Rattle.chip_registers.specs.Groups.{group_at, is_indexed, row_of}
 use Rattle.chip_registers.specs.Indexes.{index_bits, index_kept, fits}
 use Rattle.chip_registers.specs.declared.Group.{Group}
 use Rattle.chip_registers.specs.declared.Group.TheVariants.{Cr, Sr, Gr, Xr, Fr, Mr, Msr, Palmask, Ar}
-use Rattle.chip_registers.specs.declared.Row.TheVariants.{Listed, Unlisted}
 use Rattle.chip_registers.proofs.TableLaws.{every_group}
+use Rattle.std.specs.Prelude.{Some, None}
 
 -- ---- what is kept, and what fits
 pub kept-fits : (g : Group) (v : ℕ) → fits g (index_kept g v) ≡ true
@@ -83,18 +83,18 @@ abbrev within : Group → List Register → Bool
 within g [] = true
 within g (r ∷ rs) = fits g r.index && within g rs
 
-misfit_in : (g : Group) (rs : List Register) (i : ℕ) → within g rs ≡ true → fits g i ≡ false → row_in rs i ≡ Unlisted
+misfit_in : (g : Group) (rs : List Register) (i : ℕ) → within g rs ≡ true → fits g i ≡ false → row_in rs i ≡ None
 misfit_in g [] i t h = refl
 misfit_in g (r ∷ rs) i t h =
-    let (here, others) = and_both (fits g r.index) (within g rs) t in
+    let (here, others) = and_parts (fits g r.index) (within g rs) t in
     go (eqb i r.index) refl here (misfit_in g rs i others h)
   where
-    go : (z : Bool) → eqb i r.index ≡ z → fits g r.index ≡ true → row_in rs i ≡ Unlisted
-        → cond z (Listed r.writable r.reset) (row_in rs i) ≡ Unlisted
+    go : (z : Bool) → eqb i r.index ≡ z → fits g r.index ≡ true → row_in rs i ≡ None
+        → cond z (Some (listed r.writable r.reset)) (row_in rs i) ≡ None
     go true e here others = absurd (false≢true (sym h ∙ ap (fits g) (eqb-true _ _ e) ∙ here))
     go false e here others = others
 
-pub misfit_unlisted : (g : Group) (i : ℕ) → is_indexed g ≡ true → fits g i ≡ false → row_of g i ≡ Unlisted
+pub misfit_unlisted : (g : Group) (i : ℕ) → is_indexed g ≡ true → fits g i ≡ false → row_of g i ≡ None
 unfolding fits row_of cr_lines sr_lines gr_lines xr_lines fr_lines mr_lines ar_lines
 misfit_unlisted Cr i x h = misfit_in Cr cr_lines i refl h
 misfit_unlisted Sr i x h = misfit_in Sr sr_lines i refl h

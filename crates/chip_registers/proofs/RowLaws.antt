@@ -9,7 +9,7 @@ use lib.ListN.{get_or, length}
 use borrow.Author.Tests.{ltb-true, leb-true, eqb-true}
 use Rattle.lists.specs.Scan.{every}
 use Rattle.lists.proofs.Scan.{every-at}
-use Rattle.lists.proofs.Tests.{and_both}
+use Rattle.std.proofs.lemmas.Bool.{and_parts}
 use Rattle.chip_registers.specs.CrtController.{cr_lines}
 use Rattle.chip_registers.specs.Sequencer.{sr_lines}
 use Rattle.chip_registers.specs.Graphics.{gr_lines}
@@ -20,10 +20,10 @@ use Rattle.chip_registers.specs.Multimedia.{mr_lines}
 use Rattle.chip_registers.specs.Groups.{number_of, group_at, is_indexed, row_of, table_at}
 use Rattle.chip_registers.specs.Row.{Slot, At, Nowhere, lines_of, before, row_size, slot_of, names}
 use Rattle.chip_registers.proofs.TableLaws.{group_numbered}
-use Rattle.chip_registers.specs.declared.Row.{Row}
-use Rattle.chip_registers.specs.declared.Row.TheVariants.{Listed, Unlisted}
 use Rattle.chip_registers.specs.declared.Group.{Group}
 use Rattle.chip_registers.specs.declared.Group.TheVariants.{Cr, Sr, Gr, Xr, Fr, Mr, Msr, Palmask, Ar}
+use Rattle.std.specs.Prelude.{Option, Some, None}
+use Rattle.chip_registers.specs.declared.Row.{Row}
 
 -- the row has as many places as there are lines in the tables
 pub row_full : length names ≡ row_size
@@ -36,11 +36,11 @@ row_full = refl
 abbrev placed : Group → ℕ → ℕ → Bool
 placed g i k = ltb k row_size && (leb (before g) k && (ltb k (before g + 128) && eqb (get_or names k 0) (256 * number_of g + i)))
 
-abbrev right : Group → ℕ → Slot → Row → Bool
-right g i (At k) (Listed w b) = is_indexed g && placed g i k
-right g i (At k) Unlisted = false
-right g i Nowhere (Listed w b) = not (is_indexed g)
-right g i Nowhere Unlisted = true
+abbrev right : Group → ℕ → Slot → Option Row → Bool
+right g i (At k) (Some row) = is_indexed g && placed g i k
+right g i (At k) None = false
+right g i Nowhere (Some row) = not (is_indexed g)
+right g i Nowhere None = true
 
 each : (g : Group) (i : ℕ) → i < 256 → right g i (slot_of g i) (row_of g i) ≡ true
 unfolding every slot_of names before lines_of table_at row_of cr_lines sr_lines gr_lines xr_lines fr_lines mr_lines ar_lines
@@ -67,14 +67,14 @@ pub record Stands (g : Group) (i k : ℕ) : Type 0 where
 pub stands : (g : Group) (i k : ℕ) → i < 256 → slot_of g i ≡ At k → Stands g i k
 stands g i k h e = go (row_of g i) (let t = each g i h in rw e at t)
   where
-    go : (r : Row) → right g i (At k) r ≡ true → Stands g i k
-    go (Listed w b) t =
-        let (l, p) = and_both (is_indexed g) (placed g i k) t in
-        let (x, q) = and_both (ltb k row_size) _ p in
-        let (y, r) = and_both (leb (before g) k) _ q in
-        let (z, n) = and_both (ltb k (before g + 128)) _ r in
+    go : (r : Option Row) → right g i (At k) r ≡ true → Stands g i k
+    go (Some row) t =
+        let (l, p) = and_parts (is_indexed g) (placed g i k) t in
+        let (x, q) = and_parts (ltb k row_size) _ p in
+        let (y, r) = and_parts (leb (before g) k) _ q in
+        let (z, n) = and_parts (ltb k (before g + 128)) _ r in
         record { listed = l; within = ltb-true _ _ x; from = leb-true _ _ y; near = ltb-true _ _ z; name = eqb-true _ _ n }
-    go Unlisted t = absurd (true≢false (sym t))
+    go None t = absurd (true≢false (sym t))
 
 -- two registers never stand at one place
 pub slot-one : (g h : Group) (i j k : ℕ) → i < 256 → j < 256 → slot_of g i ≡ At k → slot_of h j ≡ At k → (g ≡ h) × (i ≡ j)
@@ -83,18 +83,18 @@ slot-one g h i j k x y p q =
     (sym (group_numbered g) ∙ (ap group_at (omega arith) ∙ group_numbered h), omega arith)
 
 -- an index without a place is unlisted, and nothing of it can be written
-pub nowhere_unlisted : (g : Group) (i : ℕ) → i < 256 → is_indexed g ≡ true → slot_of g i ≡ Nowhere → row_of g i ≡ Unlisted
+pub nowhere_unlisted : (g : Group) (i : ℕ) → i < 256 → is_indexed g ≡ true → slot_of g i ≡ Nowhere → row_of g i ≡ None
 nowhere_unlisted g i h x e = go (row_of g i) (let t = each g i h in rw e at t)
   where
-    go : (r : Row) → right g i Nowhere r ≡ true → r ≡ Unlisted
-    go (Listed w b) t = absurd (true≢false (sym (rw x at t)))
-    go Unlisted t = refl
+    go : (r : Option Row) → right g i Nowhere r ≡ true → r ≡ None
+    go (Some row) t = absurd (true≢false (sym (rw x at t)))
+    go None t = refl
 
 -- an unlisted index has no place
-pub unlisted_nowhere : (g : Group) (i : ℕ) → i < 256 → row_of g i ≡ Unlisted → slot_of g i ≡ Nowhere
+pub unlisted_nowhere : (g : Group) (i : ℕ) → i < 256 → row_of g i ≡ None → slot_of g i ≡ Nowhere
 unlisted_nowhere g i h e = go (slot_of g i) (let t = each g i h in rw e at t)
   where
-    go : (s : Slot) → right g i s Unlisted ≡ true → s ≡ Nowhere
+    go : (s : Slot) → right g i s None ≡ true → s ≡ Nowhere
     go (At k) t = absurd (true≢false (sym t))
     go Nowhere t = refl
 

@@ -8,7 +8,7 @@ use mathlib.Core.List.{List, [], ◌∷◌}
 use lib.Dec.{eqb, ltb}
 use lib.ListN.{length}
 use borrow.Author.Tests.{eqb-true, ltb-true}
-use Rattle.chip_registers.specs.Rows.{Register, row_in}
+use Rattle.chip_registers.specs.Rows.{Register, row_in, listed}
 use Rattle.chip_registers.specs.CrtController.{cr_lines}
 use Rattle.chip_registers.specs.Sequencer.{sr_lines}
 use Rattle.chip_registers.specs.Graphics.{gr_lines}
@@ -17,13 +17,13 @@ use Rattle.chip_registers.specs.Extension.{xr_lines}
 use Rattle.chip_registers.specs.FlatPanel.{fr_lines}
 use Rattle.chip_registers.specs.Multimedia.{mr_lines}
 use Rattle.chip_registers.specs.Groups.{number_of, group_at, is, row_of, writable_in, reset_in}
-use Rattle.chip_registers.specs.declared.Row.{Row}
-use Rattle.chip_registers.specs.declared.Row.TheVariants.{Listed}
 use Rattle.chip_registers.specs.declared.Group.{Group}
 use Rattle.chip_registers.specs.declared.Group.TheVariants.{Cr, Sr, Gr, Xr, Fr, Mr, Msr, Palmask, Ar}
 use Rattle.lists.specs.Scan.{every}
 use Rattle.lists.proofs.Scan.{every-at}
-use Rattle.lists.proofs.Tests.{and_both}
+use Rattle.std.proofs.lemmas.Bool.{and_parts}
+use Rattle.std.specs.Prelude.{Option, Some}
+use Rattle.chip_registers.specs.declared.Row.{Row}
 
 -- from a table's second row on, each index is above the one before it
 abbrev rising : ℕ → List Register → Bool
@@ -119,18 +119,18 @@ pub is_same : (g h : Group) → is g h ≡ true → g ≡ h
 is_same g h e = sym (group_numbered g) ∙ ap group_at (eqb-true _ _ e) ∙ group_numbered h
 
 -- the writable bits and the reset byte of a row are bytes
-abbrev pub Bytes : Row → Type 0
+abbrev pub Bytes : Option Row → Type 0
 Bytes r = (writable_in r < 0x100) × (reset_in r < 0x100)
 
 row-bytes : (rs : List Register) (i : ℕ) → bytes rs ≡ true → Bytes (row_in rs i)
 row-bytes [] i t = (omega arith, omega arith)
 row-bytes (r ∷ rs) i t =
-    let (_, u) = and_both (byte r.index) (byte r.writable && (byte r.reset && bytes rs)) t in
-    let (w, v) = and_both (byte r.writable) (byte r.reset && bytes rs) u in
-    let (b, others) = and_both (byte r.reset) (bytes rs) v in
+    let (_, u) = and_parts (byte r.index) (byte r.writable && (byte r.reset && bytes rs)) t in
+    let (w, v) = and_parts (byte r.writable) (byte r.reset && bytes rs) u in
+    let (b, others) = and_parts (byte r.reset) (bytes rs) v in
     go (eqb i r.index) (ltb-true _ _ w) (ltb-true _ _ b) (row-bytes rs i others)
   where
-    go : (z : Bool) → r.writable < 0x100 → r.reset < 0x100 → Bytes (row_in rs i) → Bytes (cond z (Listed r.writable r.reset) (row_in rs i))
+    go : (z : Bool) → r.writable < 0x100 → r.reset < 0x100 → Bytes (row_in rs i) → Bytes (cond z (Some (listed r.writable r.reset)) (row_in rs i))
     go true w b h = (w, b)
     go false w b h = h
 

@@ -1,14 +1,13 @@
 -- The write rule, bit for bit and once over the mask: a bit that the mask has comes from the byte written, every other bit
 -- stays. A lock only takes bits away from the mask. Nothing here speaks of a particular register.
-use Prim.Native.Nat.{ℕ, zero, suc, ◌+◌, ◌-◌, ◌/◌, ◌%◌, ◌^◌, ◌<◌, ◌≤◌}
+use Prim.Native.Nat.{ℕ, zero, suc, ◌-◌, ◌<◌, ◌≤◌}
 use native.Mathlib.Omega.{arith}
 use mathlib.Core.Bool.{Bool, true, false, cond}
-use mathlib.Core.Path.{◌≡◌, refl, ap, ap₂, sym, ◌∙◌}
+use mathlib.Core.Path.{◌≡◌, refl, ap, ap₂, ◌∙◌}
 use lib.Dec.{eqb}
-use lib.Pow.{shr-shr, shr_lt}
-use native.Mathlib.Numerals.{add-one}
 use lib.Bits.{bit_and, bit_or, and_zero_r, or_zero_l, or_zero_r, and_zero_l, and_mask, or_lt, and_le_l}
 use borrow.Author.Tests.{lt-ltb}
+use Rattle.std.proofs.lemmas.Nat.Bits.{same_from_bits_below}
 use Rattle.lists.specs.Bits.{bit, is_set}
 use Rattle.chip_registers.specs.CrtController.{cr_lines}
 use Rattle.chip_registers.specs.Groups.{row_of, writable_of}
@@ -44,18 +43,9 @@ written_byte old new mask ho hn =
     let b : bit_and new mask ≤ new = and_le_l new mask in
     or_lt 8 (bit_and old (0xFF - mask)) (bit_and new mask) (omega arith) (omega arith)
 
--- two numbers of n bits that are the same bit for bit are the same; bytes in particular
-same_below : (n x y : ℕ) → x < 2 ^ n → y < 2 ^ n → ((k : ℕ) → k < n → bit k x ≡ bit k y) → x ≡ y
-same_below zero x y hx hy h = omega arith
-same_below (suc n) x y hx hy h =
-    let low : x / 1 % 2 ≡ y / 1 % 2 = h 0 (omega arith) in
-    let half : (z k : ℕ) → bit k (z / 2) ≡ bit (1 + k) z = λ z k. ap (λ (t : ℕ). t % 2) (shr-shr z 1 k) in
-    let high : x / 2 ≡ y / 2 =
-    same_below n (x / 2) (y / 2) (shr_lt n 1 (rw add-one hx)) (shr_lt n 1 (rw add-one hy)) (λ k hk. half x k ∙ h (1 + k) (omega arith) ∙ sym (half y k)) in
-    omega arith
-
+-- two bytes that are the same bit for bit are the same
 pub same_bits : (x y : ℕ) → x < 0x100 → y < 0x100 → ((k : ℕ) → k < 8 → bit k x ≡ bit k y) → x ≡ y
-same_bits x y hx hy h = same_below 8 x y hx hy h
+same_bits = same_from_bits_below 8
 
 -- a lock takes bits away and gives none: a bit that is not writable is not writable now, and the mask of the moment is a byte
 pub locked_fewer : (k : ℕ) (g : Group) (locked : Bool) (i : ℕ) → bit k (writable_of g i) ≡ 0 → bit k (writable_now g locked i) ≡ 0

@@ -1,7 +1,7 @@
 -- The groups and the row of each register. Document 01, "Ports" (the numbers of the groups) and "Registers"; AR is document
 -- 02's, P1. MSR is chapter 8's, PALMASK chapter 13's: one register each, at whatever index.
-use Rattle.std.specs.Prelude.{ℕ, Bool, true, false, cond, eqb}
-use Rattle.chip_registers.specs.Rows.{row_in}
+use Rattle.std.specs.Prelude.{ℕ, Bool, true, false, cond, eqb, Option, Some, None}
+use Rattle.chip_registers.specs.Rows.{row_in, listed}
 use Rattle.chip_registers.specs.CrtController.{cr_lines}
 use Rattle.chip_registers.specs.Sequencer.{sr_lines}
 use Rattle.chip_registers.specs.Graphics.{gr_lines}
@@ -12,7 +12,6 @@ use Rattle.chip_registers.specs.Multimedia.{mr_lines}
 use Rattle.chip_registers.specs.declared.Group.{Group}
 use Rattle.chip_registers.specs.declared.Group.TheVariants.{Cr, Sr, Gr, Xr, Fr, Mr, Msr, Palmask, Ar}
 use Rattle.chip_registers.specs.declared.Row.{Row}
-use Rattle.chip_registers.specs.declared.Row.TheVariants.{Listed, Unlisted}
 
 -- the number of a group: document 01's, and 8 for AR
 abbrev pub number_of : Group → ℕ
@@ -55,25 +54,25 @@ is_indexed Msr = false
 is_indexed Palmask = false
 is_indexed Ar = true
 
-unfoldable pub row_of : Group → ℕ → Row
+unfoldable pub row_of : Group → ℕ → Option Row
 row_of Cr i = row_in cr_lines i
 row_of Sr i = row_in sr_lines i
 row_of Gr i = row_in gr_lines i
 row_of Xr i = row_in xr_lines i
 row_of Fr i = row_in fr_lines i
 row_of Mr i = row_in mr_lines i
-row_of Msr i = Listed 0xEF 0x00
-row_of Palmask i = Listed 0xFF 0x00
+row_of Msr i = Some (listed 0xEF 0x00)
+row_of Palmask i = Some (listed 0xFF 0x00)
 row_of Ar i = row_in ar_lines i
 
 -- "An unlisted index ignores writes and reads 00h (HOUSE)."
-abbrev pub writable_in : Row → ℕ
-writable_in (Listed w r) = w
-writable_in Unlisted = 0x00
+abbrev pub writable_in : Option Row → ℕ
+writable_in (Some row) = row.0
+writable_in None = 0x00
 
-abbrev pub reset_in : Row → ℕ
-reset_in (Listed w r) = r
-reset_in Unlisted = 0x00
+abbrev pub reset_in : Option Row → ℕ
+reset_in (Some row) = row.1
+reset_in None = 0x00
 
 -- the bits that a write can change, a lock apart
 abbrev pub writable_of : Group → ℕ → ℕ

@@ -27,15 +27,13 @@ pub enum Group {
     Ar,
 }
 
-// A register as its chapter lists it, with its writable bits and its reset byte; or an index that the
-// chapter does not list.
+// A register as its chapter lists it: its writable bits and its reset byte.
 #[derive(Clone, Copy)]
-pub enum Row {
-    Listed(u8, u8),
-    Unlisted,
-}
+pub struct Row(pub u8, pub u8);
 
-// The group of a number, 0 to 8; a number above 8 is no group's.
+// The group of a number, 0 to 8; a number above 8 is no group's. It answers AR there and not None: its contract names
+// `group_at` of specs/Groups, which gives every number a group.
+#[tactic(auto, unfolding(crate::specs::Groups::group_at))]
 pub fn group_at(k: u8) -> Group
     ensures { result ≡ group_at k }
 {
@@ -57,20 +55,17 @@ fn index_mask(g: Group) -> u8
     ensures { result ≡ 2 ^ index_bits g - 1 }
 {
     match g {
-        Group::Cr => 0xFF,
         Group::Sr => 0x07,
         Group::Gr => 0x0F,
-        Group::Xr => 0xFF,
-        Group::Fr => 0xFF,
-        Group::Mr => 0xFF,
-        Group::Msr => 0x00,
-        Group::Palmask => 0x00,
         Group::Ar => 0x1F,
+        Group::Msr | Group::Palmask => 0x00,
+        _ => 0xFF,
     }
 }
 
 // What is kept of a byte that is written as a group's index: a long index folds onto a short one. MSR and PALMASK
 // have no index, and keep 0.
+#[tactic(auto, using(std::proofs::lemmas::Nat::and_mask), unfolding(crate::specs::Indexes::index_kept))]
 pub fn index_kept(g: Group, v: u8) -> u8
     ensures { result ≡ index_kept g v }
 {
@@ -78,14 +73,16 @@ pub fn index_kept(g: Group, v: u8) -> u8
 }
 
 // Whether an index fits its group: the index register keeps all of it.
+#[tactic(auto, using(crate::proofs::IndexLaws::mask_fits))]
 pub fn index_fits(g: Group, i: u8) -> bool
     ensures { result ≡ fits g i }
 {
     i <= index_mask(g)
 }
 
-// The row of a register.
-pub fn row_of(g: Group, i: u8) -> Row
+// The row of a register; none at an index that the chapter does not list.
+#[tactic(auto, unfolding(crate::specs::Groups::row_of))]
+pub fn row_of(g: Group, i: u8) -> Option<Row>
     ensures { result ≡ row_of g i }
 {
     match g {
@@ -95,8 +92,8 @@ pub fn row_of(g: Group, i: u8) -> Row
         Group::Xr => rows::xr(i),
         Group::Fr => rows::fr(i),
         Group::Mr => rows::mr(i),
-        Group::Msr => Row::Listed(0xEF, 0x00),
-        Group::Palmask => Row::Listed(0xFF, 0x00),
+        Group::Msr => Some(Row(0xEF, 0x00)),
+        Group::Palmask => Some(Row(0xFF, 0x00)),
         Group::Ar => rows::ar(i),
     }
 }
@@ -105,71 +102,38 @@ pub fn row_of(g: Group, i: u8) -> Row
 pub fn writable(g: Group, i: u8) -> u8
     ensures { result ≡ writable_of g i }
 {
-    match row_of(g, i) {
-        Row::Listed(w, _) => w,
-        Row::Unlisted => 0x00,
-    }
+    row_of(g, i).map_or(0x00, |row| row.0)
 }
 
 // The byte that a reset leaves, the pins apart; 00h at an unlisted index.
 pub fn reset_byte(g: Group, i: u8) -> u8
     ensures { result ≡ reset_of g i }
 {
-    match row_of(g, i) {
-        Row::Listed(_, b) => b,
-        Row::Unlisted => 0x00,
-    }
+    row_of(g, i).map_or(0x00, |row| row.1)
 }
 
 // Whether a group's lock is on, by the byte of CR11 and by bit 5 of the attribute index.
+#[tactic(auto, using(std::proofs::lemmas::Nat::Bits::and_pow), unfolding(crate::specs::WriteRule::locked_by))]
 pub fn locked_by(g: Group, cr11: u8, picture: bool) -> bool
     ensures { result ≡ locked_by g cr11 picture }
 {
     match g {
-        Group::Cr => cr11 / 128 % 2 == 1,
-        Group::Sr => false,
-        Group::Gr => false,
-        Group::Xr => false,
-        Group::Fr => false,
-        Group::Mr => false,
-        Group::Msr => false,
-        Group::Palmask => false,
+        Group::Cr => cr11 & 0x80 != 0,
         Group::Ar => picture,
+        _ => false,
     }
 }
 
-// What CR11's protection leaves open of a CR register.
-fn left_open_cr(i: u8) -> u8
-    ensures { result ≡ left_open Group.Cr i }
-{
-    match i {
-        0x00..=0x06 => 0x00,
-        0x07 => 0x10,
-        _ => 0xFF,
-    }
-}
-
-// What the picture leaves open of an AR register.
-fn left_open_ar(i: u8) -> u8
-    ensures { result ≡ left_open Group.Ar i }
-{
-    if i < 0x10 { 0x00 } else { 0xFF }
-}
-
-// What a group's lock leaves open of a register.
+// What a group's lock leaves open of a register: CR11's protection of CR, the picture of AR.
+#[tactic(auto, unfolding(crate::specs::WriteRule::left_open))]
 fn left_open(g: Group, i: u8) -> u8
     ensures { result ≡ left_open g i }
 {
-    match g {
-        Group::Cr => left_open_cr(i),
-        Group::Sr => 0xFF,
-        Group::Gr => 0xFF,
-        Group::Xr => 0xFF,
-        Group::Fr => 0xFF,
-        Group::Mr => 0xFF,
-        Group::Msr => 0xFF,
-        Group::Palmask => 0xFF,
-        Group::Ar => left_open_ar(i),
+    match (g, i) {
+        (Group::Cr, 0x00..=0x06) => 0x00,
+        (Group::Cr, 0x07) => 0x10,
+        (Group::Ar, 0x00..=0x0F) => 0x00,
+        _ => 0xFF,
     }
 }
 
@@ -181,6 +145,7 @@ pub fn under_lock(g: Group, locked: bool, i: u8, mask: u8) -> u8
 }
 
 // The bits that a write can change while the group's lock is on or off.
+#[tactic(auto, unfolding(crate::specs::WriteRule::writable_now))]
 pub fn writable_now(g: Group, locked: bool, i: u8) -> u8
     ensures { result ≡ writable_now g locked i }
 {
@@ -189,8 +154,9 @@ pub fn writable_now(g: Group, locked: bool, i: u8) -> u8
 
 // The byte that a register holds after `new` is written to it over `old`: the writable bits are those of
 // `new`, the others stay.
+#[tactic(auto, unfolding(crate::specs::WriteRule::written))]
 pub fn write(old: u8, new: u8, mask: u8) -> u8
     ensures { result ≡ written old new mask }
 {
-    (old & (0xFF - mask)) | (new & mask)
+    (old & !mask) | (new & mask)
 }

@@ -13,51 +13,48 @@ use borrow.Author.Tests.{lt-ltb, le-ltb}
 use Rattle.chip.specs.Access.{answer_number, port_written, port_read}
 use Rattle.chip.specs.Differ.{differ}
 use Rattle.chip.specs.State.{Chip}
-use Rattle.chip.specs.declared.access.Answer.{Answer}
-use Rattle.chip.specs.declared.access.Answer.TheVariants.{Done as Granted, Unlisted as NoPort, Closed as Shut}
 use Rattle.chip.proofs.NumberLaws.{write_number, read_number}
 use Rattle.script_commands.specs.declared.Command.{Command}
 use Rattle.script_commands.specs.declared.Command.TheVariants.{Out, In, Merge, OutAcc}
-use Rattle.script_commands.specs.declared.CommandRead.{CommandRead}
-use Rattle.script_commands.specs.declared.CommandRead.TheVariants.{Known, Unknown}
 use Rattle.lists.specs.Numbers.{Returned, returned}
 use Rattle.chip_run.specs.Run.{Ran, ran_to, handed, Did, answered, done, one, following, went_to, run_from, altering, carry, more, carried, reads, ran, least, reason_number, verdict_number, of_ending, command_table, stop_table, run_table}
 use Rattle.chip_run.specs.declared.Reason.{Reason}
 use Rattle.chip_run.specs.declared.Reason.TheVariants.{Form}
-use Rattle.chip_run.specs.declared.Verdict.{Verdict}
-use Rattle.chip_run.specs.declared.Verdict.TheVariants.{Done, Bad}
 use Rattle.chip_run.specs.declared.Ending.TheVariants.{Stopped}
 use Rattle.chip_run.proofs.RunLaws.{count_least, length-reads}
+use Rattle.std.specs.Prelude.{Result, Option, Ok, Err, Some, None}
+use Rattle.chip.specs.declared.access.AccessError.{AccessError}
+use Rattle.chip.specs.declared.access.AccessError.TheVariants.{Unlisted, Closed}
 
 -- ---- one command
-pub answered-number : (a : Answer) → verdict_number (answered a) ≡ answer_number a
-answered-number Granted = refl
-answered-number NoPort = refl
-answered-number Shut = refl
+pub answered-number : (a : Result (Unit {0}) AccessError) → verdict_number (answered a) ≡ answer_number a
+answered-number (Ok tt) = refl
+answered-number (Err Unlisted) = refl
+answered-number (Err Closed) = refl
 
-done-number : (c : Chip) (acc : ℕ) (x : Command) → verdict_number (done c acc x).verdict ≡ command_table c (Known x)
+done-number : (c : Chip) (acc : ℕ) (x : Command) → verdict_number (done c acc x).verdict ≡ command_table c (Some x)
 unfolding done
 done-number c acc (Out p v) = answered-number (port_written c p v).answer ∙ write_number c p v
 done-number c acc (In p) = answered-number (port_read c p).answer ∙ read_number c p
 done-number c acc (Merge k s) = refl
 done-number c acc (OutAcc p) = answered-number (port_written c p acc).answer ∙ write_number c p acc
 
-pub one_number : (c : Chip) (acc : ℕ) (r : CommandRead) → verdict_number (one c acc r).verdict ≡ command_table c r
+pub one_number : (c : Chip) (acc : ℕ) (r : Option Command) → verdict_number (one c acc r).verdict ≡ command_table c r
 unfolding one
-one_number c acc (Known x) = done-number c acc x
-one_number c acc Unknown = refl
+one_number c acc (Some x) = done-number c acc x
+one_number c acc None = refl
 
 -- what the contract of `command` says, from the one equation
-pub command_answered : (c : Chip) (acc : ℕ) (r : CommandRead) {d : Did} {b : Bool} → d ≡ one c acc r → b ≡ differ c (one c acc r).chip
+pub command_answered : (c : Chip) (acc : ℕ) (r : Option Command) {d : Did} {b : Bool} → d ≡ one c acc r → b ≡ differ c (one c acc r).chip
     → (d ≡ one c acc r) × ((verdict_number d.verdict ≡ command_table c r) × (b ≡ differ c (one c acc r).chip))
 command_answered c acc r e f = (e, (ap (λ (d : Did). verdict_number d.verdict) e ∙ one_number c acc r, f))
 
 -- ---- a run
 -- number and place where n commands are carried out, of so many that there are and may be, from place k on
-abbrev table_from : Chip → ℕ → ℕ → List CommandRead → ℕ → ℕ → Returned
+abbrev table_from : Chip → ℕ → ℕ → List (Option Command) → ℕ → ℕ → Returned
 table_from c acc k rs n most = cond (ltb n most) (returned (stop_table c acc rs n) (k + n)) (returned 0 0)
 
-pub carry_next : (c : Chip) (acc : ℕ) (r : CommandRead) (rs : List CommandRead) → (one c acc r).verdict ≡ Done
+pub carry_next : (c : Chip) (acc : ℕ) (r : Option Command) (rs : List (Option Command)) → (one c acc r).verdict ≡ Ok tt
     → carry c acc (r ∷ rs) ≡ carry (one c acc r).chip (one c acc r).acc rs
 unfolding carry
 carry_next c acc r rs e = rw e
@@ -67,7 +64,7 @@ unfolding carry
 carry-none c acc = refl
 
 -- past a command that was done
-table_next : (c : Chip) (acc k : ℕ) (r : CommandRead) (rs : List CommandRead) (n most : ℕ) → (one c acc r).verdict ≡ Done
+table_next : (c : Chip) (acc k : ℕ) (r : Option Command) (rs : List (Option Command)) (n most : ℕ) → (one c acc r).verdict ≡ Ok tt
     → table_from (one c acc r).chip (one c acc r).acc (k + 1) rs n most ≡ table_from c acc k (r ∷ rs) (suc n) (suc most)
 table_next c acc k r rs n most e = go (dec_lt n most)
   where
@@ -79,7 +76,7 @@ table_next c acc k r rs n most e = go (dec_lt n most)
     go (no h) = let a : most ≤ n = omega arith in let a' : suc most ≤ suc n = omega arith in rw (le-ltb _ _ a, le-ltb _ _ a')
 
 -- .. and at one that is refused
-table_there : (c : Chip) (acc k : ℕ) (r : CommandRead) (rs : List CommandRead) (most : ℕ) (why : Reason) → (one c acc r).verdict ≡ Bad why
+table_there : (c : Chip) (acc k : ℕ) (r : Option Command) (rs : List (Option Command)) (most : ℕ) (why : Reason) → (one c acc r).verdict ≡ Err why
     → returned (reason_number why) k ≡ table_from c acc k (r ∷ rs) 0 (suc most)
 table_there c acc k r rs most why e =
     let h : 0 < suc most = omega arith in
@@ -87,11 +84,11 @@ table_there c acc k r rs most why e =
     let number : reason_number why ≡ command_table c r = ap verdict_number (sym e) ∙ one_number c acc r in
     rw (lt-ltb _ _ h, carry-none c acc, z, number)
 
-ending_number : (rs : List CommandRead) (c : Chip) (acc k left : ℕ)
+ending_number : (rs : List (Option Command)) (c : Chip) (acc k left : ℕ)
     → of_ending (run_from c acc k left rs).ending ≡ table_from c acc k rs (min left (min (length rs) (carried c acc rs))) (min left (length rs))
 unfolding run_from carried
 ending_number [] c acc k left =
-    let h : min left (length {A = CommandRead} []) ≤ min left (min (length {A = CommandRead} []) 0) = omega arith in
+    let h : min left (length {A = Option Command} []) ≤ min left (min (length {A = Option Command} []) 0) = omega arith in
     rw (le-ltb _ _ h)
 ending_number (r ∷ rs) c acc k zero =
     let h : min zero (length (r ∷ rs)) ≤ min zero (min (length (r ∷ rs)) (carried c acc (r ∷ rs))) = omega arith in
@@ -102,16 +99,16 @@ ending_number (r ∷ rs) c acc k (suc left) =
     rest : ℕ
     rest = carried (one c acc r).chip (one c acc r).acc rs
 
-    go : (v : Verdict) → (one c acc r).verdict ≡ v
+    go : (v : Result (Unit {0}) Reason) → (one c acc r).verdict ≡ v
         → of_ending (run_from (one c acc r).chip (one c acc r).acc (k + 1) left rs).ending
         ≡ table_from (one c acc r).chip (one c acc r).acc (k + 1) rs (min left (min (length rs) rest)) (min left (length rs))
         → of_ending (following v (run_from (one c acc r).chip (one c acc r).acc (k + 1) left rs) (λ why. went_to c k (Stopped k why))).ending
         ≡ table_from c acc k (r ∷ rs) (min (suc left) (min (suc (length rs)) (more v rest))) (min (suc left) (suc (length rs)))
-    go Done e next =
+    go (Ok tt) e next =
         let a : min (suc left) (min (suc (length rs)) (suc rest)) ≡ suc (min left (min (length rs) rest)) = omega arith in
         let b : min (suc left) (suc (length rs)) ≡ suc (min left (length rs)) = omega arith in
         rw (a, b) (next ∙ table_next c acc k r rs (min left (min (length rs) rest)) (min left (length rs)) e)
-    go (Bad why) e next =
+    go (Err why) e next =
         let a : min (suc left) (min (suc (length rs)) 0) ≡ 0 = omega arith in
         let b : min (suc left) (suc (length rs)) ≡ suc (min left (length rs)) = omega arith in
         rw (a, b) (table_there c acc k r rs (min left (length rs)) why e)

@@ -3,16 +3,16 @@
 // how many commands changed a register or a colour.
 #![tactic(auto)]
 
-ghost use Rattle.std.specs.Prelude.{cond, ◌≡◌};
+ghost use Rattle.std.specs.Prelude.{◌≡◌};
 ghost use Rattle.chip.specs.Differ.{differ};
-ghost use Rattle.chip.specs.View.{view};
+ghost use Rattle.chip.specs.View.{view, view_wrote};
 ghost use Rattle.script_commands.specs.Command.{command_of};
-ghost use Rattle.chip_run.specs.Run.{answered, done, one, ran as ranOf, least, verdict_number, of_ending, command_table, run_table};
+ghost use Rattle.chip_run.specs.Run.{reason_of, answered, after_write, done, tally, one, ran as ranOf, least, verdict_number, of_ending, command_table, run_table};
 ghost use Rattle.chip_run.specs.View.{view_did, view_ran};
 
 use chip::Chip;
-use chip::access::Answer;
-use script_commands::{Command, CommandRead, command_of};
+use chip::access::{AccessError, Wrote};
+use script_commands::{Command, command_of};
 
 // Why a command is refused: it has no known form, the ports are closed, or its port is not listed.
 #[derive(Clone, Copy)]
@@ -22,17 +22,11 @@ pub enum Reason {
     Unlisted,
 }
 
-// What became of one command.
-#[derive(Clone, Copy)]
-pub enum Verdict {
-    Done,
-    Bad(Reason),
-}
-
-// One command: its verdict, the accumulator and the state after it, and whether a register or a colour differs then.
+// One command: its verdict, the accumulator and the state after it, and whether a register or a colour differs then. A refused
+// command has all of these too (`done` of specs/Run), so that they stand beside the verdict and not in it.
 #[derive(Clone, Copy)]
 pub struct Did {
-    pub verdict: Verdict,
+    pub verdict: Result<(), Reason>,
     pub acc: u8,
     pub changed: bool,
     pub chip: Chip,
@@ -46,8 +40,16 @@ pub enum Ending {
     Stopped(usize, Reason),
 }
 
+// How a run went: how many commands were carried out, how many of these changed a register or a colour, and how it ended.
+#[derive(Clone, Copy)]
+pub struct Tally {
+    pub count: usize,
+    pub changing: usize,
+    pub ending: Ending,
+}
+
 // What a run hands back: the state, how many commands were carried out, how many of these changed a register or a colour,
-// and how it ended.
+// and how it ended. No tally stands in it: the clauses of `run` name its fields.
 #[derive(Clone, Copy)]
 pub struct Ran {
     pub chip: Chip,
@@ -56,62 +58,75 @@ pub struct Ran {
     pub ending: Ending,
 }
 
+// A port access's refusal as the reason of its command's.
+impl From<AccessError> for Reason {
+    ghost from_gives = { λ error why. why ≡ reason_of error };
+
+    // The reason of the same name.
+    fn from(error: AccessError) -> Reason {
+        match error {
+            AccessError::Unlisted => Reason::Unlisted,
+            AccessError::Closed => Reason::Closed,
+        }
+    }
+}
+
+impl Ran {
+    // How it went, for those who hold the state elsewhere.
+    pub fn tally(self) -> Tally
+        ensures { result ≡ tally self.count self.changing self.ending }
+    {
+        Tally {
+            count: self.count,
+            changing: self.changing,
+            ending: self.ending,
+        }
+    }
+}
+
 // A port access's answer as a verdict.
-fn judge(a: Answer) -> Verdict
+fn judge(a: Result<(), AccessError>) -> Result<(), Reason>
     ensures { result ≡ answered a }
 {
-    match a {
-        Answer::Done => Verdict::Done,
-        Answer::Unlisted => Verdict::Bad(Reason::Unlisted),
-        Answer::Closed => Verdict::Bad(Reason::Closed),
+    Ok(a?)
+}
+
+// A write to a port as a command; the accumulator stays.
+fn after_write(acc: u8, w: Wrote) -> Did
+    ensures shown { view_did result ≡ after_write acc (view_wrote w) }
+    ensures counted { result.changed ≡ w.changed }
+{
+    Did {
+        verdict: judge(w.answer),
+        acc,
+        changed: w.changed,
+        chip: w.chip,
     }
 }
 
 // One command of a known form.
 fn carry_out(chip: Chip, acc: u8, c: Command) -> Did
-    ensures result_value { view_did result ≡ done (view chip) acc c }
-    ensures changed_value { result.changed ≡ differ (view chip) (done (view chip) acc c).chip }
+    ensures shown { view_did result ≡ done (view chip) acc c }
+    ensures counted { result.changed ≡ differ (view chip) (done (view chip) acc c).chip }
 {
     match c {
-        Command::Out(port, v) => {
-            let w = chip.write(port, v);
-            let next = w.chip;
-            let answer = w.answer;
-            Did {
-                verdict: judge(answer),
-                acc,
-                changed: w.changed,
-                chip: next,
-            }
-        }
+        Command::Out(port, v) => after_write(acc, chip.write(port, v)),
         Command::In(port) => {
             let s = chip.read(port);
-            let next = s.chip;
-            let answer = s.answer;
             Did {
-                verdict: judge(answer),
+                verdict: judge(s.answer),
                 acc: s.value,
                 changed: false,
-                chip: next,
+                chip: s.chip,
             }
         }
         Command::Merge(keep, set) => Did {
-            verdict: Verdict::Done,
+            verdict: Ok(()),
             acc: (acc & keep) | set,
             changed: false,
             chip,
         },
-        Command::OutAcc(port) => {
-            let w = chip.write(port, acc);
-            let next = w.chip;
-            let answer = w.answer;
-            Did {
-                verdict: judge(answer),
-                acc,
-                changed: w.changed,
-                chip: next,
-            }
-        }
+        Command::OutAcc(port) => after_write(acc, chip.write(port, acc)),
     }
 }
 
@@ -121,9 +136,9 @@ pub fn command(chip: Chip, acc: u8, a: u8, b: u8, c: u8, d: u8) -> Did
     ensures verdict_value { verdict_number result.verdict ≡ command_table (view chip) (command_of a b c d) }
     ensures changed_value { result.changed ≡ differ (view chip) (one (view chip) acc (command_of a b c d)).chip }
 {
-    let CommandRead::Known(x) = command_of(a, b, c, d) else {
+    let Some(x) = command_of(a, b, c, d) else {
         return Did {
-            verdict: Verdict::Bad(Reason::Form),
+            verdict: Err(Reason::Form),
             acc,
             changed: false,
             chip,
@@ -132,34 +147,23 @@ pub fn command(chip: Chip, acc: u8, a: u8, b: u8, c: u8, d: u8) -> Did
     carry_out(chip, acc, x)
 }
 
-// One more, where something changed.
-fn step_if(changed: bool) -> usize
-    ensures { result ≡ cond changed 1 0 }
-{
-    if changed { 1 } else { 0 }
-}
-
-// The commands of a list, up to a limit.
-pub fn run(chip: Chip, commands: &[u8], limit: usize) -> Ran
+// The commands of a list, four bytes each, up to a limit.
+pub fn run(mut chip: Chip, commands: &[u8], limit: usize) -> Ran
     ensures result_value { view_ran result ≡ ranOf (view chip) commands.now limit }
     ensures count_value { result.count ≡ least (view chip) commands.now limit }
     ensures ending_value { of_ending result.ending ≡ run_table (view chip) commands.now limit }
 {
-    let size = commands.len();
-    let mut chip = chip;
-    if size % 4 != 0 {
+    let (commands, []) = commands.as_chunks::<4>() else {
         return Ran {
             chip,
             count: 0,
             changing: 0,
             ending: Ending::Stopped(0, Reason::Form),
         };
-    }
-    let mut acc: u8 = 0;
-    let mut place: usize = 0;
-    let mut changing: usize = 0;
-    let mut at: usize = 0;
-    while at < size {
+    };
+    let mut acc = 0;
+    let mut changing = 0;
+    for (place, &[a, b, c, d]) in commands.iter().enumerate() {
         if place == limit {
             return Ran {
                 chip,
@@ -168,16 +172,8 @@ pub fn run(chip: Chip, commands: &[u8], limit: usize) -> Ran
                 ending: Ending::AtLimit,
             };
         }
-        let did = command(
-            chip,
-            acc,
-            commands[at],
-            commands[at + 1],
-            commands[at + 2],
-            commands[at + 3],
-        );
-        let v = did.verdict;
-        if let Verdict::Bad(why) = v {
+        let did = command(chip, acc, a, b, c, d);
+        if let Err(why) = did.verdict {
             return Ran {
                 chip,
                 count: place,
@@ -185,16 +181,13 @@ pub fn run(chip: Chip, commands: &[u8], limit: usize) -> Ran
                 ending: Ending::Stopped(place, why),
             };
         }
-        let next = did.chip;
-        chip = next;
+        chip = did.chip;
         acc = did.acc;
-        changing += step_if(did.changed);
-        place += 1;
-        at += 4;
+        changing += usize::from(did.changed);
     }
     Ran {
         chip,
-        count: place,
+        count: commands.len(),
         changing,
         ending: Ending::Ended,
     }

@@ -9,12 +9,11 @@ use Rattle.chip.proofs.DifferLaws.{unmoved}
 use Rattle.chip.specs.declared.Indexes.{Indexes}
 use Rattle.chip.specs.declared.Loading.{Loading}
 use Rattle.script_commands.specs.declared.Command.{Command}
-use Rattle.script_commands.specs.declared.CommandRead.TheVariants.{Known}
 use Rattle.chip_run.specs.Run.{did, one, carry, altering}
-use Rattle.chip_run.specs.declared.Verdict.TheVariants.{Done}
 use Rattle.chip_run.proofs.RunLaws.{carry-append, knowns}
 use Rattle.chip_run.proofs.ChangingLaws.{altering-append}
 use Rattle.chip_play.proofs.Sends.{Sends, Is, knowns-append}
+use Rattle.std.specs.Prelude.{Ok, Some}
 
 pub record Alike (c : Chip) (a : ℕ) (cs ds : List Command) : Type 0 where
   pub leaves : carry c a (knowns cs) ≡ carry c a (knowns ds)
@@ -27,10 +26,10 @@ pub alike_then : {c : Chip} {a : ℕ} {cs ds es : List Command} → Alike c a cs
 alike_then s t = record { leaves = s.leaves ∙ t.leaves; alters = s.alters ∙ t.alters }
 
 -- one behind the other, where the first are carried out
-pub alike-append : {c d : Chip} {a b : ℕ} (xs xs' ys ys' : List Command) → carry c a (knowns xs) ≡ did Done b d → Alike c a xs xs' → Alike d b ys ys'
+pub alike-append : {c d : Chip} {a b : ℕ} (xs xs' ys ys' : List Command) → carry c a (knowns xs) ≡ did (Ok tt) b d → Alike c a xs xs' → Alike d b ys ys'
     → Alike c a (xs ++ ys) (xs' ++ ys')
 alike-append {c} {d} {a} {b} xs xs' ys ys' goes s t =
-    let goes' : carry c a (knowns xs') ≡ did Done b d = sym s.leaves ∙ goes in
+    let goes' : carry c a (knowns xs') ≡ did (Ok tt) b d = sym s.leaves ∙ goes in
     record {
       leaves =
           ap (carry c a) (knowns-append xs ys) ∙ carry-append (knowns xs) (knowns ys) c d a b goes ∙ t.leaves
@@ -43,7 +42,7 @@ alike-append {c} {d} {a} {b} xs xs' ys ys' goes s t =
 
 -- a command that does nothing in a state
 abbrev pub Void : Chip → Command → Type 0
-Void c x = (a : ℕ) → one c a (Known x) ≡ did Done a c
+Void c x = (a : ℕ) → one c a (Some x) ≡ did (Ok tt) a c
 
 pub left_out_lem : {c : Chip} {a : ℕ} (x : Command) (cs : List Command) → Void c x → Alike c a (x ∷ cs) cs
 unfolding carry altering

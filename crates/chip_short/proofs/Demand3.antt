@@ -12,7 +12,6 @@ use Rattle.chip.specs.declared.Loading.{Loading}
 use Rattle.chip.proofs.ReachLaws.{ports_stay}
 use Rattle.script_steps.specs.declared.Step.{Step}
 use Rattle.script.specs.File.{checked}
-use Rattle.script.specs.declared.Checked.TheVariants.{Accepted}
 use Rattle.script_commands.specs.Command.{bytes_of_all}
 use Rattle.script_commands.specs.Expansion.{expanded, commands_of}
 use Rattle.script_commands.specs.Known.{expanded_known}
@@ -24,7 +23,6 @@ use Rattle.script_short.specs.Short.{shortened, short_to, short_begins}
 use Rattle.script_short.proofs.ShortLaws.{past, short_append}
 use Rattle.script_short.proofs.Recalling.{short_step}
 use Rattle.chip_run.specs.Run.{Ran, did, carry, altering, handed, ran, of_ending}
-use Rattle.chip_run.specs.declared.Verdict.TheVariants.{Done}
 use Rattle.chip_run.proofs.RunLaws.{knowns}
 use Rattle.chip_play.specs.ByName.{applied, applied_all}
 use Rattle.chip_play.specs.Demand3.{ran_steps}
@@ -35,6 +33,7 @@ use Rattle.chip_short.specs.Demand3.{ran_short, AfterShort, Demand3Short}
 use Rattle.chip_short.proofs.Alike.{Alike, alike_self, alike-append}
 use Rattle.chip_short.proofs.Repeated.{step_alike}
 use Rattle.chip_short.proofs.Between.{Recalls, recalls-none, recalls_next, recalls_for}
+use Rattle.std.specs.Prelude.{Ok}
 
 -- ---- steps, behind commands of which it is known what stands
 abbrev Shortens : List Step → Type 0
@@ -61,14 +60,14 @@ script_alike [] = none_alike
 script_alike (s ∷ ss) = more-alike s ss (script_alike ss)
 
 -- ---- the steps of an accepted file, with nothing before them
-module _ (f : List ℕ) (m : ℕ) (acc : checked f ≡ Accepted m) (c : Chip) (free : ports_open (named c) ≡ true) where
+module _ (f : List ℕ) (m : ℕ) (acc : checked f ≡ Ok m) (c : Chip) (free : ports_open (named c) ≡ true) where
   pub short_alike : (n : ℕ) → n ≤ m → Alike c 0 (commands_to f n) (short_to f n)
   short_alike n room = script_alike (steps_to f n) (named c) (steps_legal f m acc n room) free c.indexes c.loading 0 [] (recalls-none c.indexes)
 
   -- the short commands of the first n steps go as far as the plain ones
   pub short_goes : (n : ℕ) → n ≤ m → (x : Indexes) × (l : Loading) × (a : ℕ)
-      × (carry c 0 (knowns (commands_to f n)) ≡ did Done a (join (applied_all (steps_to f n) (named c)) x l))
-      × (carry c 0 (knowns (short_to f n)) ≡ did Done a (join (applied_all (steps_to f n) (named c)) x l))
+      × (carry c 0 (knowns (commands_to f n)) ≡ did (Ok tt) a (join (applied_all (steps_to f n) (named c)) x l))
+      × (carry c 0 (knowns (short_to f n)) ≡ did (Ok tt) a (join (applied_all (steps_to f n) (named c)) x l))
   short_goes n room =
       let (x, l, a, h) = steps_go f m acc c free n room in
       (x, l, a, h.ends, sym (short_alike n room).leaves ∙ h.ends)

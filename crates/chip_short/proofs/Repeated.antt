@@ -5,7 +5,7 @@ use mathlib.Core.Bool.{Bool, true, false}
 use mathlib.Core.Path.{◌≡◌, refl, sym, ap, ◌∙◌}
 use mathlib.Core.List.{[], ◌∷◌}
 use lib.Bits.{bit_and, bit_or}
-use Rattle.lists.proofs.Tests.{and_both}
+use Rattle.std.proofs.lemmas.Bool.{and_parts}
 use Rattle.chip_registers.specs.Groups.{group_at}
 use Rattle.chip_registers.specs.Indexes.{index_kept}
 use Rattle.chip_registers.specs.declared.Group.{Group}
@@ -26,10 +26,10 @@ use Rattle.script_commands.specs.declared.Ways.{Ways}
 use Rattle.script_commands.specs.declared.Ways.TheVariants.{Pair, Pairs, Direct, Turns, Nowhere}
 use Rattle.script_commands.proofs.Knowing.{nothing_known}
 use Rattle.chip_run.specs.Run.{did}
-use Rattle.chip_run.specs.declared.Verdict.TheVariants.{Done}
 use Rattle.chip_play.proofs.Sends.{Is, At, select, idle, stores, changes, passes, skips}
 use Rattle.chip_play.proofs.Reaching.{Leads, leads, open_received}
 use Rattle.chip_short.proofs.Alike.{Alike, Void, alike_self, alike_then, left_out_lem, left_out-behind}
+use Rattle.std.specs.Prelude.{Ok}
 
 -- ---- an index that stands
 byte-again : (g : Group) (x : Indexes) → with_index_byte g x (index_byte g x) ≡ x
@@ -53,7 +53,7 @@ index-again g i x stands = ap (with_index_byte g x) (sym stands) ∙ byte-again 
 module _ (n : Named) (free : ports_open n ≡ true) (g : Group) (i : ℕ) (x : Indexes) (stands : StandsAt g i x) (l : Loading) (a : ℕ) where
   picked : (b : Bool) → picks3_dx n ≡ b → (p : ℕ) → target b true p ≡ Index g → (z : Indexes) (l' : Loading) → Is x z → Void (join n z l') (Out p i)
   picked b picks p leads z l' e c =
-      select n z l' c free b picks p g i leads ∙ ap (λ (t : Indexes). did Done c (join n t l')) (index-again g i z (ap (index_byte g) e ∙ stands))
+      select n z l' c free b picks p g i leads ∙ ap (λ (t : Indexes). did (Ok tt) c (join n t l')) (index-again g i z (ap (index_byte g) e ∙ stands))
 
   at-index : ((z : Indexes) → index_of g (with_index g z i) ≡ i) → (z : Indexes) → Is x z → At g i z
   at-index kept z e = ap (index_of g) e ∙ ap (index_of g) (sym (index-again g i x stands)) ∙ kept x
@@ -103,5 +103,5 @@ step_alike (Set group i v) n lawful free true x l a stands =
     set-alike n free (group_at group) i x (stands refl) l a v (ways group) (picks3_dx n) refl (leads (picks3_dx n) group i lawful)
 step_alike (Field group i v m) n lawful free true x l a stands =
     field_alike n free (group_at group) i x (stands refl) l a (0xFF - m) v (ways group) (picks3_dx n) refl
-    (leads (picks3_dx n) group i (and_both (names group i) (within v m) lawful).0)
+    (leads (picks3_dx n) group i (and_parts (names group i) (within v m) lawful).0)
 step_alike (Colour e r g b) n lawful free true x l a stands = alike_self

@@ -3,13 +3,12 @@
 -- list's own statement (specs/Demand3 of crate `chip_play`), with `short_to` and `short_begins` of crate `script_short` in place of
 -- its list and its counts. The theorem is `demand_3_short`, in proofs/Demand3. A run that its limit stops inside a step is not
 -- covered: there a plain list has sent an index again that the short one has not.
-use Rattle.std.specs.Prelude.{ℕ, ◌≤◌, ◌≡◌, true, List}
+use Rattle.std.specs.Prelude.{ℕ, ◌≤◌, ◌≡◌, true, List, Ok}
 use Rattle.lists.specs.Bits.{is_set}
 use Rattle.lists.specs.Numbers.{returned}
 use Rattle.chip.specs.State.{Chip, named}
 use Rattle.chip.specs.Reach.{Reach}
 use Rattle.script.specs.File.{checked}
-use Rattle.script.specs.declared.Checked.TheVariants.{Accepted}
 use Rattle.script_commands.specs.Command.{bytes_of_all}
 use Rattle.script_commands.specs.Translation.{steps_to}
 use Rattle.script_short.specs.Short.{short_to, short_begins}
@@ -35,6 +34,6 @@ pub record AfterShort (c : Chip) (file : List ℕ) (m n : ℕ) : Type 0 where
 
 -- for every accepted file, every state that accesses reach from a reset with CFG1 = 1, and every number of its steps
 pub record Demand3Short : Type 0 where
-  pub holds : (file : List ℕ) (m : ℕ) → checked file ≡ Accepted m
+  pub holds : (file : List ℕ) (m : ℕ) → checked file ≡ Ok m
       → (first second : ℕ) → is_set 1 first ≡ true → (c : Chip) → Reach first second c
       → (n : ℕ) → n ≤ m → AfterShort c file m n

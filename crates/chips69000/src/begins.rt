@@ -5,25 +5,9 @@ ghost use Rattle.std.specs.Prelude.{◌≡◌};
 ghost use Rattle.script_commands.specs.Translation.{begun, of_translated};
 ghost use Rattle.script_short.specs.Short.{short_begun};
 
-use script_commands::{Translated, step_commands};
+use crate::told;
+use script_commands::step_commands;
 use script_short::short_step_commands;
-
-// An answer, its value at a place that the caller lends and its number.
-fn told(t: Translated, value: &mut usize) -> u8
-    ensures value { result ≡ (of_translated t).number }
-    ensures value_after { value.new ≡ (of_translated t).value }
-{
-    match t {
-        Translated::Commands(k) => {
-            *value = k;
-            0
-        }
-        Translated::Refused(why) => {
-            *value = why.value();
-            why.number()
-        }
-    }
-}
 
 // How many commands the steps before this one have; past the last step, how many there are. A refused file is as for a check.
 #[unsafe(no_mangle)]

@@ -12,15 +12,44 @@ ghost use Rattle.lent_chip.specs.Layout.{view, spare};
 ghost use Rattle.lent_chip.specs.Accesses.{Left, Packed};
 ghost use Rattle.lent_chip.specs.Numbers.{write_table, read_table};
 ghost use Rattle.lent_reset.specs.Fresh.{reset_answer};
+ghost use Rattle.script.specs.Numbers.{of_refusal, of_checked};
+ghost use Rattle.script_writer.specs.Write.{of_written};
+ghost use Rattle.script_commands.specs.Translation.{of_translated};
 ghost use Rattle.chips69000.specs.Numbers.{library_version, state_version, reset_number, in_c};
 
-use lent_chip::access::{read_word, write_word};
-use lent_reset::{LentReset, reset};
+use lent_chip::access::{StateError, read_word, write_word};
+use lent_reset::reset;
+use script::Refusal;
 
 pub mod begins;
 pub mod names;
 pub mod scripts;
 pub mod video;
+
+// A refusal: its number, and what it says at a place that the caller lends.
+fn refused(why: Refusal, value: &mut usize) -> u8
+    ensures number { result ≡ (of_refusal why).number }
+    ensures value_after { value.new ≡ (of_refusal why).value }
+{
+    *value = why.value();
+    why.number()
+}
+
+// A count, or why there is none: its number, and the value at a place that the caller lends. Checking, writing and translating
+// answer so.
+fn told(answer: Result<usize, Refusal>, value: &mut usize) -> u8
+    ensures checked { (result ≡ (of_checked answer).number) × (value.new ≡ (of_checked answer).value) }
+    ensures written { (result ≡ (of_written answer).number) × (value.new ≡ (of_written answer).value) }
+    ensures translated { (result ≡ (of_translated answer).number) × (value.new ≡ (of_translated answer).value) }
+{
+    match answer {
+        Ok(n) => {
+            *value = n;
+            0
+        }
+        Err(why) => refused(why, value),
+    }
+}
 
 // The version of the library.
 #[unsafe(no_mangle)]
@@ -45,8 +74,8 @@ pub extern "C" fn chips69000_reset(state: &mut [u8], first: u8, second: u8) -> u
     ensures left { Left state.old (reset_of first second) 0 state.new }
 {
     match reset(state, first, second) {
-        LentReset::Done => 0,
-        LentReset::Length => 255,
+        Ok(()) => 0,
+        Err(StateError::Length) => 255,
     }
 }
 

@@ -1,44 +1,32 @@
 // Registers and colours by name, whatever any index holds: the state is lent for reading only, so no index, no turn and
 // no loading state moves. Document 01, "Registers" and "Palette"; document 02, P1, for group 8. A register comes as 256
 // times the number plus the byte, a colour as the number above red, green and blue (crate `lent_names`, specs/Numbers).
-ghost use Rattle.std.specs.Prelude.{◌≡◌, ◌+◌, ◌*◌};
+ghost use Rattle.std.specs.Prelude.{◌≡◌};
 ghost use Rattle.lent_names.specs.Answers.{register_answer, entry_answer, pixel_answer};
 ghost use Rattle.lent_names.specs.Numbers.{register_word, colour_word};
 
-use lent_names::{Colour, Register, colour_of, entry_of, register_of};
-
-// A byte as a longer number.
-fn wide(x: u8) -> u32
-    ensures { result ≡ x }
-{
-    x as u32
-}
-
-// A colour as one number.
-fn packed(red: u8, green: u8, blue: u8) -> u32
-    ensures { result ≡ 65536 * red + 256 * green + blue }
-{
-    65536 * wide(red) + 256 * wide(green) + wide(blue)
-}
+use chip::Rgb;
+use lent_chip::access::StateError;
+use lent_names::{RegisterError, colour_of, entry_of, register_of};
 
 // What is answered of a colour, as one number.
-fn colour_word(a: Colour) -> u32
+fn colour_word(a: Result<Rgb, StateError>) -> u32
     ensures { result ≡ colour_word a }
 {
     match a {
-        Colour::Given(c) => packed(c.red, c.green, c.blue),
-        Colour::Length => 0xFF000000,
+        Ok(c) => 65536 * (c.red as u32) + 256 * (c.green as u32) + (c.blue as u32),
+        Err(StateError::Length) => 0xFF000000,
     }
 }
 
 // What is answered of a register, as one number.
-fn register_word(a: Register) -> u16
+fn register_word(a: Result<u8, RegisterError>) -> u16
     ensures { result ≡ register_word a }
 {
     match a {
-        Register::Byte(b) => b as u16,
-        Register::NoGroup => 0xFEFF,
-        Register::Length => 0xFFFF,
+        Ok(b) => b as u16,
+        Err(RegisterError::NoGroup) => 0xFEFF,
+        Err(RegisterError::Length) => 0xFFFF,
     }
 }
 

@@ -6,17 +6,16 @@ ghost use Rattle.blit.specs.Transfer.{transferred};
 ghost use Rattle.chips69000.specs.Given.{given};
 
 use blit_frame::{Area, Transfer};
-use memory::{Read, answer_number, refusal_number};
+use memory::{answer_number, refusal_number};
 
 // A byte of video memory: 256 times the number, plus the byte.
 #[unsafe(no_mangle)]
 pub extern "C" fn chips69000_memory_read(mem: &[u8], at: usize) -> u16
     ensures { result ≡ 256 * byte_number (length mem.now) at + byte_value mem.now at }
 {
-    let r = memory::read_byte(mem, at);
-    match r {
-        Read::Byte(b) => b as u16,
-        Read::Unread(why) => 256 * (refusal_number(why) as u16) + 255,
+    match memory::read_byte(mem, at) {
+        Ok(b) => b as u16,
+        Err(why) => 256 * (refusal_number(why) as u16) + 255,
     }
 }
 
@@ -57,11 +56,11 @@ pub extern "C" fn chips69000_transfer(
             address: src,
             span: srcspan,
         },
-        width: width,
-        height: height,
-        code: code,
-        leftward: leftward,
-        upward: upward,
+        width,
+        height,
+        code,
+        leftward,
+        upward,
         pattern_address: pattern,
         pattern_row: row,
     };

@@ -4,79 +4,46 @@
 // it concerns, and nothing is written. Lines are counted from 1 there, as an editor counts them.
 #![tactic(auto)]
 
-ghost use Rattle.std.specs.Prelude.{◌≡◌, length};
-
 use std::io::{Read, Write};
-use streams::{Got, print, read_input, say_unread};
-use text_to_script::{Composed, complain, compose};
+use streams::{print, read_or_say};
+use text_to_script::{complain, compose};
 
-// Room for twelve blocks.
-fn file_buffer() -> [u8; 6144]
-    ensures { 6144 ≡ length result }
-{
-    [0; 6144]
-}
-
-// What is wrong with a text, in one write.
-fn print_complaint<E: Write>(err: &mut E, c: Composed, file: &mut [u8]) {
-    let n = complain(c, file, 0);
-    let _ = err.write_all(&file[..n]);
-}
-
-// The file in one write, or the complaint.
-fn print_file<W: Write, E: Write>(out: &mut W, err: &mut E, text: &[u8], file: &mut [u8]) {
-    let c = compose(text, file);
-    let Composed::Blocks(n) = c else {
-        print_complaint(err, c, file);
+// The file in one write, or what is wrong with the text, in one write.
+fn answer<W: Write, E: Write>(out: &mut W, err: &mut E, text: &[u8]) {
+    // Room for twelve blocks.
+    let mut file = [0u8; 6144];
+    let made = compose(text, &mut file);
+    let Ok(count) = made else {
+        let n = complain(made, &mut file, 0);
+        let _ = err.write_all(&file[..n]);
         return;
     };
-    let size = 512 * n;
-    print(out, err, b"compose", &file[..size]);
+    print(out, err, b"compose", &file[..512 * count]);
 }
 
-// A text of so many bytes, at most 1,048,576.
-fn take_text<W: Write, E: Write>(out: &mut W, err: &mut E, text: &[u8], file: &mut [u8]) {
-    if 1_048_576 < text.len() {
-        let _ = err.write_all(b"compose: text of over 1048576 bytes\n");
-        return;
-    }
-    print_file(out, err, text, file);
-}
-
-// A text that could be read to its end: a part of one is not composed.
-fn answer<R: Read, W: Write, E: Write>(
-    input: &mut R,
-    out: &mut W,
-    err: &mut E,
-    text: &mut [u8],
-    file: &mut [u8],
-) {
-    match read_input(input, text) {
-        Got::Bytes(n) => take_text(out, err, &text[..n], file),
-        Got::Failed => {
-            say_unread(err, b"compose");
-        }
-    }
-}
-
-fn with_text<R: Read, W: Write, E: Write>(
+// A text that could be read to its end, of at most 1,048,576 bytes: a part of one is not composed.
+fn run<R: Read, W: Write, E: Write>(
     input: &mut R,
     out: &mut W,
     err: &mut E,
     text: &mut [u8; 1048577],
-    file: &mut [u8],
 ) {
-    answer(input, out, err, text, file)
+    let Some(text) = read_or_say(input, err, b"compose", text) else {
+        return;
+    };
+    if 1_048_576 < text.len() {
+        let _ = err.write_all(b"compose: text of over 1048576 bytes\n");
+        return;
+    }
+    answer(out, err, text);
 }
 
 fn main(rt: HostRuntime) {
     let mut text = [0u8; 1048577];
-    let mut file = file_buffer();
-    with_text(
+    run(
         &mut rt.stdin(),
         &mut rt.stdout(),
         &mut rt.stderr(),
         &mut text,
-        &mut file,
     );
 }

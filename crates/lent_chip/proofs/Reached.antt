@@ -6,18 +6,19 @@ use Rattle.chip_ports.specs.declared.Target.{Target}
 use Rattle.chip.specs.State.{Chip, named}
 use Rattle.chip.specs.Names.{ports_open, picks3_dx}
 use Rattle.chip.specs.Access.{port_written, port_read, write_to, read_from}
-use Rattle.chip.specs.declared.access.Answer.TheVariants.{Closed}
 use Rattle.chip.proofs.DifferLaws.{unmoved}
 use Rattle.chip.proofs.Reached.{closed_write, closed_read, reached_write, reached-read}
 use Rattle.lent_chip.specs.Layout.{whole, view, Holds}
 use Rattle.lent_chip.specs.Accesses.{Left, WroteIn, ReadIn}
 use Rattle.lent_chip.proofs.Holding.{as_it_is}
 use Rattle.lent_chip.proofs.Words.{quiet_word}
+use Rattle.std.specs.Prelude.{Err}
+use Rattle.chip.specs.declared.access.AccessError.TheVariants.{Closed}
 
 module _ {l : List ℕ} {o : Bool} (is : o ≡ ports_open (named (view l))) where
   module _ (size : length l ≡ whole) (shut : not o ≡ true) where
     pub write_closed : (p v : ℕ) → WroteIn l (port_written (view l) p v) l 0x0200FFFF
-    write_closed p v = rw (← closed_write (view l) p is shut v) (record { holds = as_it_is size; answer = quiet_word (view l) (view l) Closed (unmoved (view l) (view l) refl) })
+    write_closed p v = rw (← closed_write (view l) p is shut v) (record { holds = as_it_is size; answer = quiet_word (view l) (view l) (Err Closed) (unmoved (view l) (view l) refl) })
 
     pub read_closed : (p : ℕ) → ReadIn l (port_read (view l) p) l 0x2FF
     read_closed p = rw (← closed_read (view l) p is shut) (record { holds = as_it_is size; number = refl; value = refl })

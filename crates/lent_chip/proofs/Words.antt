@@ -11,14 +11,15 @@ use Rattle.chip.specs.Palette.{by_mode, coloured, held, moved, loaded}
 use Rattle.chip.specs.Attribute.{attribute_set}
 use Rattle.chip.specs.Access.{Wrote, untold, told, write_to}
 use Rattle.chip.specs.Differ.{same_colour, same_stored, differ, changes}
-use Rattle.chip.specs.declared.access.Answer.{Answer}
-use Rattle.chip.specs.declared.access.Answer.TheVariants.{Done, Unlisted, Closed}
 use Rattle.chip.proofs.DifferLaws.{received_differs, differ-named, coloured_same-stored}
 use Rattle.chip.proofs.PaletteLaws.{coloured-same}
 use Rattle.lent_chip.specs.Layout.{PALETTE, view, spare, Holds}
 use Rattle.lent_chip.specs.Accesses.{Told, told_of, Packed, WroteIn}
 use Rattle.lent_chip.proofs.Stores.{get_colour, palette-length}
 use Rattle.lent_chip.proofs.Holding.{turned}
+use Rattle.std.specs.Prelude.{Result, Ok, Err}
+use Rattle.chip.specs.declared.access.AccessError.{AccessError}
+use Rattle.chip.specs.declared.access.AccessError.TheVariants.{Unlisted, Closed}
 
 -- ---- what is told is the number's bytes
 top : (x : ℕ) → x / 65536 ≡ 65536 * (x / 4294967296) + 256 * (x / 16777216 % 256) + x / 65536 % 256
@@ -68,15 +69,15 @@ word b a k hb ha same = record {
     go false e = omega arith
 
 -- a write that tells of no register and changes none, by its answer
-abbrev pub word_of : Answer → ℕ
-word_of Done = 0x0000FFFF
-word_of Unlisted = 0x0100FFFF
-word_of Closed = 0x0200FFFF
+abbrev pub word_of : Result (Unit {0}) AccessError → ℕ
+word_of (Ok tt) = 0x0000FFFF
+word_of (Err Unlisted) = 0x0100FFFF
+word_of (Err Closed) = 0x0200FFFF
 
-pub quiet_word : (c d : Chip) (a : Answer) → differ c d ≡ false → Packed (word_of a) (told_of c (untold a d))
-quiet_word c d Done e = rw e (record { above = refl; number = refl; between = refl; before = refl; after = refl })
-quiet_word c d Unlisted e = rw e (record { above = refl; number = refl; between = refl; before = refl; after = refl })
-quiet_word c d Closed e = rw e (record { above = refl; number = refl; between = refl; before = refl; after = refl })
+pub quiet_word : (c d : Chip) (a : Result (Unit {0}) AccessError) → differ c d ≡ false → Packed (word_of a) (told_of c (untold a d))
+quiet_word c d (Ok tt) e = rw e (record { above = refl; number = refl; between = refl; before = refl; after = refl })
+quiet_word c d (Err Unlisted) e = rw e (record { above = refl; number = refl; between = refl; before = refl; after = refl })
+quiet_word c d (Err Closed) e = rw e (record { above = refl; number = refl; between = refl; before = refl; after = refl })
 
 shown_below : (z : Bool) (x : ℕ) → x < 256 → cond z x 0 < 256
 shown_below true x h = h
@@ -100,12 +101,12 @@ pub now_wrote : {l m : List ℕ} {w x : Wrote} {r : ℕ} → WroteIn l w m r →
 now_wrote h e = rw (← e) h
 
 -- a byte to PALDATA tells of no register; what is stored may differ
-pub colour_word_lem : (c d : Chip) (z : Bool) → differ c d ≡ z → Packed (cond z 0x10000FFFF 0x0000FFFF) (told_of c (untold Done d))
+pub colour_word_lem : (c d : Chip) (z : Bool) → differ c d ≡ z → Packed (cond z 0x10000FFFF 0x0000FFFF) (told_of c (untold (Ok tt) d))
 colour_word_lem c d true e = rw e (record { above = refl; number = refl; between = refl; before = refl; after = refl })
-colour_word_lem c d false e = quiet_word c d Done e
+colour_word_lem c d false e = quiet_word c d (Ok tt) e
 
 -- a write of an index: what has a name stays, or the picture alone differs
-pub quietly : {l m : List ℕ} {d : Chip} (a : Answer) → Holds m d (spare l) → differ (view l) d ≡ false → WroteIn l (untold a d) m (word_of a)
+pub quietly : {l m : List ℕ} {d : Chip} (a : Result (Unit {0}) AccessError) → Holds m d (spare l) → differ (view l) d ≡ false → WroteIn l (untold a d) m (word_of a)
 quietly {l} {d = d} a h e = record { holds = h; answer = quiet_word (view l) d a e }
 
 -- a byte came to PALDATA, and then the position moved

@@ -1,10 +1,10 @@
 // Port reads and writes on lent bytes, in place. Document 01, "Ports" and numbers 0, 1 and 2, and document 02, P1,
 // for the attribute registers, P5, for the bits of an index, and P6: what a write did to the register. The text is that
 // of crate `chip`'s methods, each callee working on the bytes. A refused access changes no byte.
-ghost use Rattle.std.specs.Prelude.{◌≡◌, ◌/◌, ◌%◌, length};
+ghost use Rattle.std.specs.Prelude.{◌≡◌, ◌/◌, ◌%◌};
 ghost use Rattle.chip.specs.State.{with_indexes, index_byte, index_of, with_index};
 ghost use Rattle.chip.specs.Access.{write_to, read_from, port_written, port_read};
-ghost use Rattle.lent_chip.specs.Layout.{whole, view, spare, Holds};
+ghost use Rattle.lent_chip.specs.Layout.{view, spare, Holds};
 ghost use Rattle.lent_chip.specs.Accesses.{Left, Packed, WroteIn, ReadIn};
 ghost use Rattle.lent_chip.specs.Numbers.{write_table, read_table};
 
@@ -19,8 +19,15 @@ use chip_registers::{Group, index_kept};
 // How many bytes a state has.
 pub const STATE: usize = 1057;
 
+// What is no state: its length is wrong.
+#[derive(Clone, Copy)]
+pub enum StateError {
+    Length,
+}
+
 // Document 01's numbers of an access. An access answers by one word: of a read 256 times the number plus the byte, of a
-// write as specs/Accesses packs it. One number stays in a register, where an enum or a struct would go through memory.
+// write as specs/Accesses packs it. The words go to C as they are, of a write the lower half (`chips69000_port_write`), and
+// one number stays in a processor's register, where an enum or a struct would go through memory.
 // Here are the writes that are refused: FFh twice.
 const UNLISTED: u64 = 0x0100FFFF;
 
@@ -32,9 +39,11 @@ const UNLISTED_WORD: u16 = 0x1FF;
 
 const CLOSED_WORD: u16 = 0x2FF;
 
+const NO_STATE_WORD: u16 = 0xFFFF;
+
 // The byte that holds a group's index; MSR and PALMASK have none, and stand at 0.
-fn index_byte(state: &[u8], g: Group) -> u8
-    requires { length state.now ≡ whole }
+#[tactic(auto, unfolding(crate::specs::Layout::view, crate::specs::Layout::laid, chip::specs::View::view))]
+fn index_byte(state: &[u8; STATE], g: Group) -> u8
     ensures { result ≡ index_byte g (view state.now).indexes }
 {
     match g {
@@ -51,16 +60,14 @@ fn index_byte(state: &[u8], g: Group) -> u8
 }
 
 // A group's index: the bits that its index register has.
-fn index(state: &[u8], g: Group) -> u8
-    requires { length state.now ≡ whole }
+fn index(state: &[u8; STATE], g: Group) -> u8
     ensures { result ≡ index_of g (view state.now).indexes }
 {
     index_kept(g, index_byte(state, g))
 }
 
 // A group's index is written: it keeps the bits that its index register has.
-fn set_index(state: &mut [u8], g: Group, v: u8)
-    requires { length state.old ≡ whole }
+fn set_index(state: &mut [u8; STATE], g: Group, v: u8)
     ensures { Holds state.new (with_indexes (view state.old) (with_index g (view state.old).indexes v)) (spare state.old) }
 {
     let kept = index_kept(g, v);
@@ -78,8 +85,7 @@ fn set_index(state: &mut [u8], g: Group, v: u8)
 }
 
 // A byte written where a port leads.
-fn write_to(state: &mut [u8], t: Target, v: u8) -> u64
-    requires { length state.old ≡ whole }
+fn write_to(state: &mut [u8; STATE], t: Target, v: u8) -> u64
     ensures { WroteIn state.old (write_to t (view state.old) v) state.new result }
 {
     match t {
@@ -107,9 +113,8 @@ fn write_to(state: &mut [u8], t: Target, v: u8) -> u64
     }
 }
 
-// A port write on a state.
-fn write_in(state: &mut [u8], port: u16, v: u8) -> u64
-    requires { length state.old ≡ whole }
+// A port write on a state, which answers by a word.
+pub fn write_in(state: &mut [u8; STATE], port: u16, v: u8) -> u64
     ensures { WroteIn state.old (port_written (view state.old) port v) state.new result }
 {
     if !is_open(state) {
@@ -127,8 +132,7 @@ fn done(value: u8) -> u16
 }
 
 // A byte read from where a port leads.
-fn read_from(state: &mut [u8], t: Target) -> u16
-    requires { length state.old ≡ whole }
+fn read_from(state: &mut [u8; STATE], t: Target) -> u16
     ensures { ReadIn state.old (read_from t (view state.old)) state.new result }
 {
     match t {
@@ -154,9 +158,8 @@ fn read_from(state: &mut [u8], t: Target) -> u16
     }
 }
 
-// A port read on a state.
-fn read_in(state: &mut [u8], port: u16) -> u16
-    requires { length state.old ≡ whole }
+// A port read on a state, which answers by a word: its high byte is the number, its low byte the byte.
+pub fn read_in(state: &mut [u8; STATE], port: u16) -> u16
     ensures { ReadIn state.old (port_read (view state.old) port) state.new result }
 {
     if !is_open(state) {
@@ -166,25 +169,25 @@ fn read_in(state: &mut [u8], port: u16) -> u16
     read_from(state, t)
 }
 
-// A port write, which answers by a word.
+// A port write on bytes of any length.
 pub fn write_word(state: &mut [u8], port: u16, v: u8) -> u64
     ensures packed { Packed result (write_table state.old port v) }
     ensures left { Left state.old (port_written (view state.old) port v).chip (spare state.old) state.new }
 {
-    if state.len() != STATE {
+    let Some(state) = state.as_mut_array() else {
         return NO_STATE;
-    }
+    };
     write_in(state, port, v)
 }
 
-// A port read, which answers by a word: its high byte is the number, its low byte the byte.
+// A port read on bytes of any length.
 pub fn read_word(state: &mut [u8], port: u16) -> u16
     ensures result_value { result / 256 ≡ (read_table state.old port).number }
     ensures result_value_2 { result % 256 ≡ (read_table state.old port).value }
     ensures left { Left state.old (port_read (view state.old) port).chip (spare state.old) state.new }
 {
-    if state.len() != STATE {
-        return 65535;
-    }
+    let Some(state) = state.as_mut_array() else {
+        return NO_STATE_WORD;
+    };
     read_in(state, port)
 }

@@ -2,16 +2,18 @@
 // access works on them in place. Document 01, "Ports" (the state) and "Registers" and "Palette"; document 02, P1, for
 // the attribute registers, P6: what a write did to the register, and P7: the listed registers stand in one row, and an
 // unlisted index has no byte. Here are the registers by name, then the palette, then port 3C0h. The other indexes and
-// the port accesses are in access.rt; registers and colours as a host asks for them are crate `lent_names`'s. A port
-// access takes bytes of any length, and refuses all but a state's.
+// the port accesses are in access.rt; registers and colours as a host asks for them are crate `lent_names`'s.
+// Functions take a state as an array of its length; `write_word` and `read_word` take bytes of any length, and refuse
+// all but a state's. Crate `chip` has the same accesses on a chip by value, document 01's form; there is no trait over both: a
+// state in place is for C, and its places and packed answers are what makes it fast.
 #![tactic(auto)]
 
-ghost use Rattle.std.specs.Prelude.{◌≡◌, ◌+◌, ◌*◌, ◌/◌, ◌%◌, ◌<◌, not, length, if◌then◌else◌, nat_eq};
+ghost use Rattle.std.specs.Prelude.{◌≡◌, ◌+◌, ◌*◌, ◌/◌, ◌%◌, ◌⊎◌, ◌<◌, not, if◌then◌else◌, nat_eq};
 ghost use Rattle.chip_registers.specs.Groups.{group_at};
 ghost use Rattle.chip_registers.specs.WriteRule.{under_lock};
 ghost use Rattle.chip.specs.State.{named, join, with_named, with_indexes, with_loading, with_turn, index_of};
 ghost use Rattle.chip.specs.Names.{register, locked as lockedOf, received, ports_open, picks3_dx, eight_bit};
-ghost use Rattle.chip.specs.Palette.{by_mode, coloured, aimed, held, moved, loaded, palstate as palstateOf, paldata as paldataOf};
+ghost use Rattle.chip.specs.Palette.{coloured, aimed, held, moved, loaded, palstate as palstateOf, paldata as paldataOf};
 ghost use Rattle.chip.specs.Attribute.{attribute_index, attribute_aimed, attribute_set};
 ghost use Rattle.chip.specs.Access.{told as told_by, attribute_wrote, write_to};
 ghost use Rattle.chip.specs.Differ.{same_stored};
@@ -20,13 +22,15 @@ ghost use Rattle.chip_masks.specs.Table.{standing_of};
 ghost use Rattle.lent_chip.specs.Layout.{whole, PALETTE, view, spare, base_of, place_of, third_of, Holds};
 ghost use Rattle.lent_chip.specs.Accesses.{WroteIn};
 
+use access::STATE;
+use chip::Rgb;
+use chip::palette::by_mode;
 use chip_masks::entry_at;
 use chip_registers::{Group, index_kept, locked_by, under_lock, write};
 
 pub mod access;
 
-// Where a state's single bytes are. The flags are bits: bit 0 says that the read index was written last, bit 1 that
-// data comes next at 3C0h, bit 2 that there is a picture.
+// Where a state's single bytes are.
 const MSR: usize = 0;
 
 const PALMASK: usize = 1;
@@ -54,6 +58,14 @@ const RED: usize = 11;
 const GREEN: usize = 12;
 
 const FLAGS: usize = 13;
+
+// The flags, by the weight of their bits: bit 0 says that the read index was written last, bit 1 that data comes next at
+// 3C0h, bit 2 that there is a picture.
+const READING: u8 = 1;
+
+const TURN: u8 = 2;
+
+const PICTURE: u8 = 4;
 
 // Where the palette starts, three bytes an entry, and where the row does.
 pub const PALETTE: usize = 14;
@@ -129,8 +141,7 @@ fn shown_by(standing: u8, b: u8) -> u8
 }
 
 // The byte of a register, by the number of its group and its index.
-fn get_at(state: &[u8], n: u8, i: u8) -> u8
-    requires { length state.now ≡ whole }
+pub fn get_at(state: &[u8; STATE], n: u8, i: u8) -> u8
     ensures { result ≡ register (group_at n) (named (view state.now)) i }
 {
     let e = entry_at(n, i);
@@ -138,9 +149,10 @@ fn get_at(state: &[u8], n: u8, i: u8) -> u8
     shown_by(e.standing, state[at])
 }
 
-// The byte of a register, by name. Each group's number is written out, for the compiler.
-fn get(state: &[u8], g: Group, i: u8) -> u8
-    requires { length state.now ≡ whole }
+// The byte of a register, by name. Each arm has its group's number as a constant, of which the compiler leaves one arm of
+// `entry_at`'s match; handed on as a variable the number would be matched again.
+#[tactic(auto, unfolding(chip_registers::specs::Groups::group_at))]
+fn get(state: &[u8; STATE], g: Group, i: u8) -> u8
     ensures { result ≡ register g (named (view state.now)) i }
 {
     match g {
@@ -157,11 +169,15 @@ fn get(state: &[u8], g: Group, i: u8) -> u8
 }
 
 // Whether a group's registers are under a lock.
-fn locked(state: &[u8], g: Group) -> bool
-    requires { length state.now ≡ whole }
+#[tactic(auto, using(crate::proofs::Holding::picture_bit), unfolding(chip::specs::Names::locked, chip_registers::specs::Groups::group_at))]
+fn locked(state: &[u8; STATE], g: Group) -> bool
     ensures { result ≡ lockedOf g (named (view state.now)) }
 {
-    locked_by(g, get_at(state, CR_GROUP, 0x11), state[FLAGS] / 4 % 2 == 1)
+    locked_by(
+        g,
+        get_at(state, CR_GROUP, 0x11),
+        state[FLAGS] / PICTURE % 2 == 1,
+    )
 }
 
 // A register's byte before a write and after it, as the write's word; 00h twice at an unlisted index. The choice is made
@@ -174,9 +190,8 @@ fn told(standing: u8, old: u8, new: u8) -> u64
 }
 
 // A register receives a byte, by the number of its group and its index; `left` is what its lock leaves open.
-fn put_at(state: &mut [u8], n: u8, i: u8, v: u8, left: u8) -> u64
-    requires state_len { length state.old ≡ whole }
-    requires left_value { left ≡ under_lock (group_at n) (lockedOf (group_at n) (named (view state.old))) i 0xFF }
+fn put_at(state: &mut [u8; STATE], n: u8, i: u8, v: u8, left: u8) -> u64
+    requires { left ≡ under_lock (group_at n) (lockedOf (group_at n) (named (view state.old))) i 0xFF }
     ensures { WroteIn state.old (told_by (group_at n) i (view state.old) (with_named (view state.old) (received (group_at n) (named (view state.old)) i v))) state.new result }
 {
     let e = entry_at(n, i);
@@ -188,9 +203,9 @@ fn put_at(state: &mut [u8], n: u8, i: u8, v: u8, left: u8) -> u64
     told(e.standing, old, new)
 }
 
-// A register receives a byte, by name. Each group's number is written out, for the compiler.
-fn put(state: &mut [u8], g: Group, i: u8, v: u8) -> u64
-    requires { length state.old ≡ whole }
+// A register receives a byte, by name, each group's number a constant as in `get`.
+#[tactic(auto, unfolding(chip_registers::specs::Groups::group_at))]
+fn put(state: &mut [u8; STATE], g: Group, i: u8, v: u8) -> u64
     ensures { WroteIn state.old (told_by g i (view state.old) (with_named (view state.old) (received g (named (view state.old)) i v))) state.new result }
 {
     let left = under_lock(g, locked(state, g), i, 0xFF);
@@ -208,76 +223,47 @@ fn put(state: &mut [u8], g: Group, i: u8, v: u8) -> u64
 }
 
 // Whether the ports answer: pin CFG1.
-fn is_open(state: &[u8]) -> bool
-    requires { length state.now ≡ whole }
+#[tactic(auto, unfolding(chip::specs::Names::ports_open, chip_registers::specs::Groups::group_at))]
+fn is_open(state: &[u8; STATE]) -> bool
     ensures { result ≡ ports_open (named (view state.now)) }
 {
     get_at(state, XR_GROUP, 0x70) / 2 % 2 == 1
 }
 
 // Whether MSR bit 0 picks the CR pair at 3D4h and 3D5h.
-fn picks_3dx(state: &[u8]) -> bool
-    requires { length state.now ≡ whole }
+#[tactic(auto, unfolding(chip::specs::Names::picks3_dx, chip_registers::specs::Groups::group_at))]
+fn picks_3dx(state: &[u8; STATE]) -> bool
     ensures { result ≡ picks3_dx (named (view state.now)) }
 {
     get_at(state, MSR_GROUP, 0x00) % 2 == 1
 }
 
 // Whether the palette is in eight-bit mode: XR80 bit 7.
-fn is_eight_bit(state: &[u8]) -> bool
-    requires { length state.now ≡ whole }
+#[tactic(auto, unfolding(chip::specs::Names::eight_bit, chip_registers::specs::Groups::group_at))]
+pub fn is_eight_bit(state: &[u8; STATE]) -> bool
     ensures { result ≡ eight_bit (named (view state.now)) }
 {
     get_at(state, XR_GROUP, 0x80) / 128 % 2 == 1
 }
 
-// A component as a mode stores and reads it: whole, or modulo 64.
-fn by_mode(eight: bool, v: u8) -> u8
-    ensures { result ≡ by_mode eight v }
+// The flags with one of them replaced.
+fn with_flag(b: u8, flag: u8, bit: bool) -> u8
+    requires { (flag ≡ READING) ⊎ (flag ≡ TURN) ⊎ (flag ≡ PICTURE) }
+    ensures { result ≡ b / (2 * flag) * (2 * flag) + b % flag + flag * (if bit then 1 else 0) }
 {
-    if eight { v } else { v % 64 }
-}
-
-// The flags with bit 0 replaced.
-fn with_reading(b: u8, bit: bool) -> u8
-    ensures { result ≡ b / 2 * 2 + (if bit then 1 else 0) }
-{
-    if bit { b / 2 * 2 + 1 } else { b / 2 * 2 }
-}
-
-// The flags with bit 1 replaced.
-fn with_turn(b: u8, bit: bool) -> u8
-    ensures { result ≡ b / 4 * 4 + b % 2 + 2 * (if bit then 1 else 0) }
-{
-    if bit {
-        b / 4 * 4 + b % 2 + 2
-    } else {
-        b / 4 * 4 + b % 2
-    }
-}
-
-// The flags with bit 2 replaced.
-fn with_picture(b: u8, bit: bool) -> u8
-    ensures { result ≡ b / 8 * 8 + b % 4 + 4 * (if bit then 1 else 0) }
-{
-    if bit {
-        b / 8 * 8 + b % 4 + 4
-    } else {
-        b / 8 * 8 + b % 4
-    }
+    let others = b / (2 * flag) * (2 * flag) + b % flag;
+    if bit { others + flag } else { others }
 }
 
 // Which byte of an entry a position is at.
 fn third(position: u8) -> usize
     ensures { (result ≡ third_of position) × (result < 3) }
 {
-    if position == 2 {
-        return 2;
+    match position {
+        2 => 2,
+        1 => 1,
+        _ => 0,
     }
-    if position == 1 {
-        return 1;
-    }
-    0
 }
 
 // Where a component of an entry is.
@@ -288,25 +274,22 @@ fn colour_place(e: u8, position: u8) -> usize
 }
 
 // Either index is written.
-fn aim(state: &mut [u8], v: u8, reading: bool)
-    requires { length state.old ≡ whole }
+fn aim(state: &mut [u8; STATE], v: u8, reading: bool)
     ensures { Holds state.new (with_loading (view state.old) (aimed (view state.old).loading v reading)) (spare state.old) }
 {
     state[INDEX] = v;
     state[POSITION] = 0;
     let old = state[FLAGS];
-    state[FLAGS] = with_reading(old, reading);
+    state[FLAGS] = with_flag(old, READING, reading);
 }
 
 // The position moves on, and after blue the index.
-fn move_on(state: &mut [u8])
-    requires { length state.old ≡ whole }
+fn move_on(state: &mut [u8; STATE])
     ensures { Holds state.new (with_loading (view state.old) (moved (view state.old).loading)) (spare state.old) }
 {
     let p = state[POSITION];
     if p == 2 {
-        let i = state[INDEX];
-        state[INDEX] = std::num::wrapping_add_u8(i, 1);
+        state[INDEX] = state[INDEX].wrapping_add(1);
         state[POSITION] = 0;
     } else if p == 1 {
         state[POSITION] = 2;
@@ -315,17 +298,17 @@ fn move_on(state: &mut [u8])
     }
 }
 
-// A colour is stored at an entry, by the mode of this moment; whether the entry has another then.
-fn put_colour(state: &mut [u8], e: u8, red: u8, green: u8, blue: u8) -> bool
-    requires { length state.old ≡ whole }
-    ensures holds { Holds state.new (with_named (view state.old) (coloured (named (view state.old)) e red green blue)) (spare state.old) }
-    ensures value { result ≡ not (same_stored (named (view state.old)) (coloured (named (view state.old)) e red green blue)) }
+// A colour is stored at an entry, by the mode of this moment; whether the entry has another then. The bytes are compared where
+// they stand: an `Rgb` made of them for `==` says no more.
+fn put_colour(state: &mut [u8; STATE], e: u8, colour: Rgb) -> bool
+    ensures holds { Holds state.new (with_named (view state.old) (coloured (named (view state.old)) e colour.red colour.green colour.blue)) (spare state.old) }
+    ensures value { result ≡ not (same_stored (named (view state.old)) (coloured (named (view state.old)) e colour.red colour.green colour.blue)) }
 {
     let eight = is_eight_bit(state);
     let at = PALETTE + 3 * (e as usize);
-    let r = by_mode(eight, red);
-    let g = by_mode(eight, green);
-    let b = by_mode(eight, blue);
+    let r = by_mode(eight, colour.red);
+    let g = by_mode(eight, colour.green);
+    let b = by_mode(eight, colour.blue);
     let same = (state[at] == r) & (state[at + 1] == g) & (state[at + 2] == b);
     state[at] = r;
     state[at + 1] = g;
@@ -334,17 +317,19 @@ fn put_colour(state: &mut [u8], e: u8, red: u8, green: u8, blue: u8) -> bool
 }
 
 // A byte comes to PALDATA: held at red and green, and at blue the entry is stored; whether it has another colour then.
-fn hold(state: &mut [u8], v: u8) -> bool
-    requires { length state.old ≡ whole }
+fn hold(state: &mut [u8; STATE], v: u8) -> bool
     ensures holds { Holds state.new (join (loaded (named (view state.old)) (view state.old).loading v) (view state.old).indexes (held (view state.old).loading v)) (spare state.old) }
     ensures value { result ≡ not (same_stored (named (view state.old)) (loaded (named (view state.old)) (view state.old).loading v)) }
 {
     let p = state[POSITION];
     if p == 2 {
         let e = state[INDEX];
-        let red = state[RED];
-        let green = state[GREEN];
-        return put_colour(state, e, red, green, v);
+        let colour = Rgb {
+            red: state[RED],
+            green: state[GREEN],
+            blue: v,
+        };
+        return put_colour(state, e, colour);
     }
     if p == 1 {
         state[GREEN] = v;
@@ -355,8 +340,7 @@ fn hold(state: &mut [u8], v: u8) -> bool
 }
 
 // A byte is written to PALDATA: it tells of no register, and may change the entry at the index.
-fn load(state: &mut [u8], v: u8) -> u64
-    requires { length state.old ≡ whole }
+fn load(state: &mut [u8; STATE], v: u8) -> u64
     ensures { WroteIn state.old (write_to Paldata (view state.old) v) state.new result }
 {
     let changed = hold(state, v);
@@ -365,16 +349,18 @@ fn load(state: &mut [u8], v: u8) -> u64
 }
 
 // What PALSTATE reads.
-fn palstate(state: &[u8]) -> u8
-    requires { length state.now ≡ whole }
+fn palstate(state: &[u8; STATE]) -> u8
     ensures { result ≡ palstateOf (view state.now).loading }
 {
-    if state[FLAGS] % 2 == 1 { 0x03 } else { 0x00 }
+    if state[FLAGS] / READING % 2 == 1 {
+        0x03
+    } else {
+        0x00
+    }
 }
 
 // What PALDATA reads: the component at the position, by the mode of this moment.
-fn paldata(state: &[u8]) -> u8
-    requires { length state.now ≡ whole }
+fn paldata(state: &[u8; STATE]) -> u8
     ensures { result ≡ paldataOf (named (view state.now)) (view state.now).loading }
 {
     let eight = is_eight_bit(state);
@@ -383,12 +369,11 @@ fn paldata(state: &[u8]) -> u8
 }
 
 // The attribute index as 3C0h reads it: the low five bits, and bit 5, the picture.
-fn attribute_index(state: &[u8]) -> u8
-    requires { length state.now ≡ whole }
+fn attribute_index(state: &[u8; STATE]) -> u8
     ensures { result ≡ attribute_index (view state.now) }
 {
     let low = index_kept(Group::Ar, state[AR_INDEX]);
-    if state[FLAGS] / 4 % 2 == 1 {
+    if state[FLAGS] / PICTURE % 2 == 1 {
         low + 0x20
     } else {
         low
@@ -396,28 +381,25 @@ fn attribute_index(state: &[u8]) -> u8
 }
 
 // The turn of 3C0h is set: at data, or at the index.
-fn set_turn(state: &mut [u8], turn: bool)
-    requires { length state.old ≡ whole }
+fn set_turn(state: &mut [u8; STATE], turn: bool)
     ensures { Holds state.new (with_indexes (view state.old) (with_turn (view state.old).indexes turn)) (spare state.old) }
 {
     let old = state[FLAGS];
-    state[FLAGS] = with_turn(old, turn);
+    state[FLAGS] = with_flag(old, TURN, turn);
 }
 
 // The attribute index is written: data comes next.
-fn aim_attribute(state: &mut [u8], v: u8)
-    requires { length state.old ≡ whole }
+fn aim_attribute(state: &mut [u8; STATE], v: u8)
     ensures { Holds state.new (attribute_aimed (view state.old) v) (spare state.old) }
 {
     state[AR_INDEX] = index_kept(Group::Ar, v);
     let old = state[FLAGS];
-    state[FLAGS] = with_picture(old, v / 32 % 2 == 1);
+    state[FLAGS] = with_flag(old, PICTURE, v / 32 % 2 == 1);
     set_turn(state, true);
 }
 
 // The register at the attribute index receives a byte: an index comes next.
-fn set_attribute(state: &mut [u8], v: u8) -> u64
-    requires { length state.old ≡ whole }
+fn set_attribute(state: &mut [u8; STATE], v: u8) -> u64
     ensures { WroteIn state.old (told_by Group.Ar (index_of Group.Ar (view state.old).indexes) (view state.old) (attribute_set (view state.old) v)) state.new result }
 {
     let i = index_kept(Group::Ar, state[AR_INDEX]);
@@ -428,11 +410,10 @@ fn set_attribute(state: &mut [u8], v: u8) -> u64
 }
 
 // A byte is written to 3C0h: to the register at the index, or of the index, which tells of no register.
-fn write_attribute(state: &mut [u8], v: u8) -> u64
-    requires { length state.old ≡ whole }
+fn write_attribute(state: &mut [u8; STATE], v: u8) -> u64
     ensures { WroteIn state.old (attribute_wrote (view state.old) v) state.new result }
 {
-    if state[FLAGS] / 2 % 2 == 1 {
+    if state[FLAGS] / TURN % 2 == 1 {
         return set_attribute(state, v);
     }
     aim_attribute(state, v);

@@ -11,7 +11,6 @@ use lib.ListN.{length}
 use borrow.Author.Tests.{eq-eqb, ne_eqb, eqb-true, eqb-false, lt-ltb, ltb-true, ltb-false}
 use Rattle.chip_registers.specs.Groups.{number_of, group_at, row_of}
 use Rattle.chip_registers.specs.declared.Group.{Group}
-use Rattle.chip_registers.specs.declared.Row.TheVariants.{Unlisted}
 use Rattle.chip_registers.proofs.TableLaws.{group_numbered, number_few}
 use Rattle.chip.specs.State.{Chip, named}
 use Rattle.chip.specs.Names.{register}
@@ -21,25 +20,25 @@ use Rattle.chip.proofs.ViewLaws.{unlisted_shows_00}
 use Rattle.lent_chip.specs.Layout.{whole, laid, view, Holds}
 use Rattle.lent_names.specs.Answers.{register_answer, entry_answer, pixel_answer}
 use Rattle.lent_names.specs.Numbers.{of_register, register_word, colour_word}
-use Rattle.lent_names.specs.declared.Register.{Register}
-use Rattle.lent_names.specs.declared.Register.TheVariants.{Byte, NoGroup, Length as RegisterLength}
-use Rattle.lent_names.specs.declared.Colour.TheVariants.{Given}
+use Rattle.std.specs.Prelude.{Result, Ok, Err, None}
+use Rattle.lent_names.specs.declared.RegisterError.{RegisterError}
+use Rattle.lent_names.specs.declared.RegisterError.TheVariants.{NoGroup, Length as RegisterLength}
 
 module _ {l : List ℕ} {c : Chip} {bits : ℕ} (h : Holds l c bits) where
   -- a register by its group's number
-  pub register-held : (g : Group) (i : ℕ) → register_answer l (number_of g) i ≡ Byte (register g (named c) i)
+  pub register-held : (g : Group) (i : ℕ) → register_answer l (number_of g) i ≡ Ok (register g (named c) i)
   register-held g i = rw (eq-eqb _ _ h.size, lt-ltb _ _ (number_few g), group_numbered g, h.chip)
 
-  pub entry-held : (e : ℕ) → entry_answer l e ≡ Given (entry (named c) e)
+  pub entry-held : (e : ℕ) → entry_answer l e ≡ Ok (entry (named c) e)
   entry-held e = rw (eq-eqb _ _ h.size, h.chip)
 
-  pub pixel_held : (p : ℕ) → pixel_answer l p ≡ Given (shown (named c) p)
+  pub pixel_held : (p : ℕ) → pixel_answer l p ≡ Ok (shown (named c) p)
   pixel_held p = rw (eq-eqb _ _ h.size, h.chip)
 
   -- an unlisted index reads 00h, in every state
-  pub unlisted_held : (g : Group) (i : ℕ) → i < 0x100 → row_of g i ≡ Unlisted → register_answer l (number_of g) i ≡ Byte 0x00
+  pub unlisted_held : (g : Group) (i : ℕ) → i < 0x100 → row_of g i ≡ None → register_answer l (number_of g) i ≡ Ok 0x00
   unfolding view
-  unlisted_held g i hi none = register-held g i ∙ ap Byte (rw (← h.chip) (unlisted_shows_00 g (laid l) i hi none))
+  unlisted_held g i hi none = register-held g i ∙ ap Ok (rw (← h.chip) (unlisted_shows_00 g (laid l) i hi none))
 
 -- MSR, group 6, and PALMASK, group 7, whatever the index
 pub msr_whatever_index : (l : List ℕ) (i j : ℕ) → register_answer l 6 i ≡ register_answer l 6 j
@@ -60,7 +59,7 @@ pub register_exact : (l : List ℕ) (g i : ℕ) → Exact l g (of_register (regi
 register_exact l g i = go (eqb (length l) whole) refl (ltb g 9) refl
   where
     go : (z : Bool) → eqb (length l) whole ≡ z → (y : Bool) → ltb g 9 ≡ y
-        → Exact l g (of_register (cond z (cond y (Byte (register (group_at g) (named (view l)) i)) NoGroup) RegisterLength)).number
+        → Exact l g (of_register (cond z (cond y (Ok (register (group_at g) (named (view l)) i)) (Err NoGroup)) (Err RegisterLength))).number
     go true e true f =
         let n : length l ≡ whole = eqb-true _ _ e in
         let w : g < 9 = ltb-true _ _ f in
@@ -86,7 +85,7 @@ register_exact l g i = go (eqb (length l) whole) refl (ltb g 9) refl
         }
 
 -- of a register's word the number and the byte can be taken out, of a colour's the number, red, green and blue
-pub register-parts : (r : Register) → (of_register r).value < 256 → (register_word r / 256 ≡ (of_register r).number) × (register_word r % 256 ≡ (of_register r).value)
+pub register-parts : (r : Result ℕ RegisterError) → (of_register r).value < 256 → (register_word r / 256 ≡ (of_register r).number) × (register_word r % 256 ≡ (of_register r).value)
 register-parts r h = (omega arith, omega arith)
 
 pub record Parts (c : Rgb) (word : ℕ) : Type 0 where
@@ -95,14 +94,14 @@ pub record Parts (c : Rgb) (word : ℕ) : Type 0 where
   pub green : word / 256 % 256 ≡ c.green
   pub blue : word % 256 ≡ c.blue
 
-pub colour_parts : (c : Rgb) → c.red < 256 → c.green < 256 → c.blue < 256 → Parts c (colour_word (Given c))
+pub colour_parts : (c : Rgb) → c.red < 256 → c.green < 256 → c.blue < 256 → Parts c (colour_word (Ok c))
 colour_parts c r g b = record { number = omega arith; red = omega arith; green = omega arith; blue = omega arith }
 
 pub no_colour : (l : List ℕ) (e : ℕ) → (length l ≡ whole → ⊥) → (colour_word (entry_answer l e) ≡ 0xFF000000) × (colour_word (pixel_answer l e) ≡ 0xFF000000)
 no_colour l e n = (rw (ne_eqb _ _ n), rw (ne_eqb _ _ n))
 
 -- a refusal shows FFh
-pub refused_ff : (r : Register) → ((of_register r).number ≡ 0 → ⊥) → (of_register r).value ≡ 0xFF
-refused_ff (Byte b) n = absurd (n refl)
-refused_ff NoGroup n = refl
-refused_ff RegisterLength n = refl
+pub refused_ff : (r : Result ℕ RegisterError) → ((of_register r).number ≡ 0 → ⊥) → (of_register r).value ≡ 0xFF
+refused_ff (Ok b) n = absurd (n refl)
+refused_ff (Err NoGroup) n = refl
+refused_ff (Err RegisterLength) n = refl

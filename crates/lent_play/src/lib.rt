@@ -9,22 +9,19 @@ ghost use Rattle.lent_chip.specs.Layout.{view, spare};
 ghost use Rattle.lent_chip.specs.Accesses.{Left};
 ghost use Rattle.lent_play.specs.Play.{play_answer, buffer_left, ByNameIn, of_lent_played, lent_play_table};
 
-use chip_play::Outcome;
-use lent_chip::access::STATE;
-use lent_run::{LentRan, run};
-use script_commands::{Translated, translate};
-
-// What is answered.
-#[derive(Clone, Copy)]
-pub enum LentPlayed {
-    // What became of the script.
-    Met(Outcome),
-    // The bytes are no state: their length is wrong.
-    Length,
-}
+use chip_run::Tally;
+use lent_chip::access::{STATE, StateError};
+use lent_run::run;
+use script::Refusal;
+use script_commands::translate;
 
 // A script file on a state. The buffer is lent for the commands, 32 bytes a step.
-pub fn play(state: &mut [u8], file: &[u8], buffer: &mut [u8]) -> LentPlayed
+// The length of the state is tested before the buffer is written: clause buffer_after.
+pub fn play(
+    state: &mut [u8],
+    file: &[u8],
+    buffer: &mut [u8],
+) -> Result<Result<Tally, Refusal>, StateError>
     ensures value { result ≡ play_answer state.old file.now (length buffer.old) }
     ensures left { Left state.old (played (view state.old) file.now (length buffer.old)).chip (spare state.old) state.new }
     ensures by_name_in { ByNameIn state.old file.now (length buffer.old) state.new result }
@@ -32,16 +29,14 @@ pub fn play(state: &mut [u8], file: &[u8], buffer: &mut [u8]) -> LentPlayed
     ensures result_value { of_lent_played result ≡ lent_play_table state.old file.now (length buffer.old) }
 {
     if state.len() != STATE {
-        return LentPlayed::Length;
+        return Err(StateError::Length);
     }
     match translate(file, buffer) {
-        Translated::Refused(why) => LentPlayed::Met(Outcome::NotPlayed(why)),
-        Translated::Commands(k) => {
+        Err(why) => Ok(Err(why)),
+        Ok(k) => {
             let end = 4 * k;
-            match run(state, &buffer[..end], k) {
-                LentRan::Ran(n, m, e) => LentPlayed::Met(Outcome::Played(n, m, e)),
-                LentRan::Length => LentPlayed::Length,
-            }
+            let tally = run(state, &buffer[..end], k)?;
+            Ok(Ok(tally))
         }
     }
 }

@@ -6,6 +6,7 @@ use mathlib.Core.Bool.{Bool, true, false, cond}
 use mathlib.Core.List.{List, ◌∷◌}
 use lib.Dec.{eqb, ltb}
 use lib.ListN.{get_or, length, length-set, replicate, set}
+use Rattle.std.proofs.lemmas.List.{get_or-replicate, length-replicate}
 use lib.Seq.{get_or-set_same, get_or-set_other}
 use native.Mathlib.Omega.{arith}
 use borrow.Author.Tests.{eqb-true, eqb-false, ne_eqb, le-ltb}
@@ -35,13 +36,9 @@ unfolding tab
 tab-one x zero = refl
 tab-one x (suc n) = ap (◌∷◌ x) (tab-one x n)
 
--- one byte more is 0
-pub zero_next : (l : List ℕ) (k : ℕ) → k < length l → ((j : ℕ) → j < k → get_or l j 0 ≡ 0) → (j : ℕ) → j < k + 1 → get_or (set l k 0) j 0 ≡ 0
-zero_next l k h each j w = go (eqb j k) refl
-  where
-    go : (z : Bool) → eqb j k ≡ z → get_or (set l k 0) j 0 ≡ 0
-    go true x = rw (eqb-true j k x) (get_or-set_same l k 0 0 h)
-    go false x = let n = eqb-false j k x in get_or-set_other l k j 0 0 n ∙ each j (omega arith)
+-- bytes that are all filled with 0
+pub filled : (l : List ℕ) {m : List ℕ} → length l ≡ whole → m ≡ replicate (length l) 0 → Cleared m
+filled l n e = rw e (record { size = length-replicate {A = ℕ} (length l) 0 ∙ n; zeros = λ k h. get_or-replicate {A = ℕ} (length l) k 0 0 (omega (arith, n)) })
 
 -- ---- the byte of a place: of the register that stands there, and 0 where none does
 abbrev fresh_byte : ℕ → ℕ → ℕ → ℕ
@@ -106,7 +103,7 @@ module _ (first second : ℕ) where
       go (IsPalmask e) = rw e (omega arith)
       go (Unlisted x e z) = absurd (let s : 0 / 128 % 2 ≡ 1 = rw z at t in omega arith)
 
-  pub next_done : (n : ℕ) (l : List ℕ) → Done n l → n < 2304
+  next_done : (n : ℕ) (l : List ℕ) → Done n l → n < 2304
       → Done (n + 1) (stored l (group_at (n / 256)) (n % 256) (reset_byte first second (group_at (n / 256)) (n % 256)))
   next_done n l f h = go (eqb (standing_of (group_at (n / 256)) (n % 256) / 128 % 2) 1) refl
     where
@@ -137,6 +134,15 @@ module _ (first second : ℕ) where
         zeros = f.zeros;
         each = λ j w s. f.each j (earlier j w (λ e. eqb-false _ 1 y (let u : Stood n = rw e at s in u))) s;
       }
+
+  -- the name of a group's number and an index
+  pub next_name : (n i : ℕ) (l : List ℕ) → Done (256 * n + i) l → n < 9 → i < 256
+      → Done (256 * n + (i + 1)) (stored l (group_at n) i (reset_byte first second (group_at n) i))
+  next_name n i l f h j =
+      let d : (256 * n + i) / 256 ≡ n = omega arith in
+      let m : (256 * n + i) % 256 ≡ i = omega arith in
+      let next : 256 * n + (i + 1) ≡ 256 * n + i + 1 = omega arith in
+      rw next (rw (d, m) at (next_done (256 * n + i) l f (omega arith)))
 
   -- ---- all names are done
   module _ (l : List ℕ) (f : Done 2304 l) where

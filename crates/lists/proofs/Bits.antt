@@ -2,14 +2,11 @@
 -- other one.
 use Prim.Native.Nat.{ℕ, ◌-◌, ◌/◌, ◌%◌, ◌^◌, ◌<◌}
 use native.Mathlib.Nat.{zero-div}
-use native.Mathlib.Omega.{arith}
-use mathlib.Core.Path.{◌≡◌, refl, ap, ◌∙◌}
-use lib.Dec.{eqb}
+use mathlib.Core.Path.{◌≡◌, ap, ◌∙◌}
 use lib.Bits.{bit_and, bit_or, bit_xor, and_shr, and_mod, or_shr, or_mod, xor_shr, xor_mod}
-use borrow.Author.Tests.{eqb-true}
+use mir.Syntax.{w8}
+use Rattle.std.proofs.lemmas.Nat.Bits.{bit_at_not}
 use Rattle.lists.specs.Bits.{bit}
-use Rattle.lists.specs.Scan.{every}
-use Rattle.lists.proofs.Scan.{every-at}
 
 pub zero_bit : (k : ℕ) → bit k 0x00 ≡ 0
 zero_bit k = rw (zero-div (2 ^ k))
@@ -24,8 +21,4 @@ pub bit-xor : (k a b : ℕ) → bit k (bit_xor a b) ≡ bit_xor (bit k a) (bit k
 bit-xor k a b = ap (λ (t : ℕ). t % 2) (xor_shr a b k) ∙ xor_mod (a / 2 ^ k) (b / 2 ^ k) 1
 
 pub bit_complement : (k m : ℕ) → k < 8 → m < 0x100 → bit k (0xFF - m) ≡ 1 - bit k m
-unfolding every
-bit_complement k m hk hm =
-    eqb-true _ _
-    (every-at (λ x. eqb (bit k (0xFF - x)) (1 - bit k x)) 0 256
-    (every-at (λ j. every (λ x. eqb (bit j (0xFF - x)) (1 - bit j x)) 0 256) 0 8 refl k (omega arith) (omega arith)) m (omega arith) (omega arith))
+bit_complement k m hk hm = bit_at_not w8 m k hm hk

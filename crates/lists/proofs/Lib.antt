@@ -1,5 +1,5 @@
 -- The laws that this crate and those above it cite: of tests (Tests), of the definitions of specs/ (Scan, Tab,
--- Put, Bits), and of parts of a list (Parts). The other folders have a function's proof each.
+-- Put, Bits), and of parts of a list (Parts).
 pub mod Tests
 pub mod Scan
 pub mod Tab

@@ -1,4 +1,4 @@
--- Laws of parts of a list: an element past a first list or of a part, the part that a callee was lent and
+-- Laws of parts of a list: an element of a part, the part that a callee was lent and
 -- gave back, and six elements in a row.
 use mathlib.Core.Path.{◌≡◌, sym, ap, ◌∙◌}
 use mathlib.Core.List.{List, [], ◌∷◌, ◌++◌, append_assoc}
@@ -7,12 +7,7 @@ use native.Mathlib.Numerals.{add-one, add-two, add-three, add-four, add_five}
 use native.Mathlib.Omega.{arith}
 use borrow.Rule.Slice.PartMut.{put_mid, Post-is}
 use lib.ListN.{length, take, drop, get_or}
-use lib.Seq.{drop-cons, take_at, get_or-append-add, drop-append-add, drop-drop, get_or-take, get_or-drop}
-
-pub get_d_past : (p r : List ℕ) (i : ℕ) → length p ≤ i → get_or (p ++ r) i 0 ≡ get_or r (i - length p) 0
-get_d_past p r i h =
-    let e : i ≡ length p + (i - length p) = omega arith in
-    ap (λ (k : ℕ). get_or (p ++ r) k 0) e ∙ get_or-append-add p r (i - length p) 0
+use lib.Seq.{drop-cons, take_at, drop-append-add, drop-drop, get_or-take, get_or-drop}
 
 -- an element of a part
 pub get_d_part : (l : List ℕ) (a n i : ℕ) → i < n → get_or (take n (drop a l)) i 0 ≡ get_or l (a + i) 0

@@ -7,7 +7,8 @@ use native.Mathlib.Nat.{add-zero, sub-zero}
 use native.Mathlib.Decide.{ℕ_discrete}
 use native.Mathlib.Omega.{arith}
 use Rattle.lists.specs.Scan.{first_not, every}
-use Rattle.lists.proofs.Tests.{and_both, both_and}
+use Rattle.std.proofs.lemmas.Bool.{and_parts}
+use Rattle.std.specs.Cmp.Derive.{both_true}
 
 -- ---- a turn of the search
 module _ (t : ℕ → Bool) (i n : ℕ) where
@@ -121,13 +122,13 @@ pub every_all : (t : ℕ → Bool) (i n : ℕ) → ((p : ℕ) → i ≤ p → p 
 unfolding every
 every_all t i zero h = refl
 every_all t i (suc n) h =
-    both_and (h i (omega arith) (omega arith)) (every_all t (i + 1) n (λ p hp hq. h p (omega arith) (omega arith)))
+    both_true (h i (omega arith) (omega arith)) (every_all t (i + 1) n (λ p hp hq. h p (omega arith) (omega arith)))
 
 pub every-at : (t : ℕ → Bool) (i n : ℕ) → every t i n ≡ true → (p : ℕ) → i ≤ p → p < i + n → t p ≡ true
 unfolding every
 every-at t i zero e p hp hq = absurd (omega arith)
 every-at t i (suc n) e p hp hq =
-    let b = and_both (t i) (every t (i + 1) n) e in
+    let b = and_parts (t i) (every t (i + 1) n) e in
     go (ℕ_discrete i p) b.0 (λ hp'. every-at t (i + 1) n b.1 p hp' (omega arith))
   where
     go : Dec (i ≡ p) → t i ≡ true → (i + 1 ≤ p → t p ≡ true) → t p ≡ true

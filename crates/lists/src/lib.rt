@@ -6,29 +6,23 @@
 ghost use Rattle.std.specs.Prelude.{◌≡◌, ◌<◌, get_or};
 ghost use Rattle.lists.specs.Units.{whole_units};
 
-// The byte at a place, and 0 past the end.
+// The byte at a place, and 0 past the end: no Option, since the definitions read a list so.
 pub fn byte_at(list: &[u8], place: usize) -> u8
     ensures { result ≡ get_or list.now place 0 }
 {
-    if place < list.len() {
-        return list[place];
-    }
-    0
+    list.get(place).copied().unwrap_or(0)
 }
 
 // A byte as a number, with its bound.
 pub fn wide(byte: u8) -> usize
     ensures { (result ≡ byte) × (result < 256) }
 {
-    byte as usize
+    usize::from(byte)
 }
 
 // Whether a length is 1 to `most` whole units. No length is whole units of nothing.
 pub fn is_whole(size: usize, unit: usize, most: usize) -> bool
     ensures { result ≡ whole_units unit most size }
 {
-    if unit == 0 {
-        return false;
-    }
-    (size % unit == 0) & (1 <= size / unit) & (size / unit <= most)
+    unit != 0 && size % unit == 0 && 1 <= size / unit && size / unit <= most
 }

@@ -9,7 +9,8 @@ use lib.Dec.{leb, ltb, eqb}
 use lib.ListN.{length, get_or, set, length-set}
 use lib.Seq.{get_or-set_same, get_or-set_other}
 use borrow.Author.Tests.{le-leb, leb-true, lt-ltb, le-ltb, ltb-false, eq-eqb, eqb-true, eqb-false}
-use Rattle.lists.proofs.Tests.{and_both, both_and}
+use Rattle.std.proofs.lemmas.Bool.{and_parts}
+use Rattle.std.specs.Cmp.Derive.{both_true}
 use Rattle.memory.specs.Memory.{length_allowed, byte_read, byte_number, byte_value, byte_written}
 
 -- ---- the lengths
@@ -17,13 +18,13 @@ use Rattle.memory.specs.Memory.{length_allowed, byte_read, byte_number, byte_val
 -- any multiple of 4 from 4,096 to 2,097,152
 pub allowed : (n : ℕ) → length_allowed n ≡ true → (4096 ≤ n) × (n ≤ 2097152)
 allowed n e =
-    let h = and_both (leb 4096 n) (leb n 2097152) (and_both _ (eqb (n % 4) 0) e).0 in
+    let h = and_parts (leb 4096 n) (leb n 2097152) (and_parts _ (eqb (n % 4) 0) e).0 in
     (leb-true _ _ h.0, leb-true _ _ h.1)
 
 pub allowed_exactly : (n : ℕ) → (length_allowed n ≡ true) ↔ ((4096 ≤ n) × (n ≤ 2097152) × (n % 4 ≡ 0))
 allowed_exactly n = (
-  λ e. ((allowed n e).0, (allowed n e).1, eqb-true _ _ (and_both (leb 4096 n && leb n 2097152) (eqb (n % 4) 0) e).1),
-  λ h. both_and (both_and (le-leb _ _ h.0) (le-leb _ _ h.1)) (eq-eqb _ _ h.2),
+  λ e. ((allowed n e).0, (allowed n e).1, eqb-true _ _ (and_parts (leb 4096 n && leb n 2097152) (eqb (n % 4) 0) e).1),
+  λ h. both_true (both_true (le-leb _ _ h.0) (le-leb _ _ h.1)) (eq-eqb _ _ h.2),
 )
 
 -- ---- the numbers of a read and a write

@@ -1,13 +1,9 @@
 -- The lent memory of document 01, "Video memory and block transfers", and a linear read and write of one byte of it.
 -- A memory is the list of its bytes. The answers' numbers and values are those of "Numbers returned"; 3 goes before 4.
 -- Transfers are in the crates blit_frame and blit.
-use Rattle.std.specs.Prelude.{ℕ, ◌%◌, Bool, cond, ◌&&◌, List, length, get_or, set, leb, ltb, eqb}
+use Rattle.std.specs.Prelude.{ℕ, ◌%◌, Bool, cond, ◌&&◌, List, length, get_or, set, leb, ltb, eqb, Result, Ok, Err}
 use Rattle.memory.specs.declared.Refusal.{Refusal}
 use Rattle.memory.specs.declared.Refusal.TheVariants.{Length, Range, Outside}
-use Rattle.memory.specs.declared.Answer.{Answer}
-use Rattle.memory.specs.declared.Answer.TheVariants.{Done, Refused}
-use Rattle.memory.specs.declared.Read.{Read}
-use Rattle.memory.specs.declared.Read.TheVariants.{Byte, Unread}
 
 -- ---- numbers of the answers
 
@@ -17,18 +13,18 @@ refusal_number Length = 3
 refusal_number Range = 5
 refusal_number Outside = 4
 
-abbrev pub answer_number : Answer → ℕ
-answer_number Done = 0
-answer_number (Refused why) = refusal_number why
+abbrev pub answer_number : Result (Unit {0}) Refusal → ℕ
+answer_number (Ok tt) = 0
+answer_number (Err why) = refusal_number why
 
-abbrev pub read_number : Read → ℕ
-read_number (Byte b) = 0
-read_number (Unread why) = refusal_number why
+abbrev pub read_number : Result ℕ Refusal → ℕ
+read_number (Ok b) = 0
+read_number (Err why) = refusal_number why
 
 -- a refused read gives FFh
-abbrev pub read_value : Read → ℕ
-read_value (Byte b) = b
-read_value (Unread why) = 0xFF
+abbrev pub read_value : Result ℕ Refusal → ℕ
+read_value (Ok b) = b
+read_value (Err why) = 0xFF
 
 -- ---- the memory
 
@@ -38,11 +34,11 @@ length_allowed n = leb 4096 n && leb n 2097152 && eqb (n % 4) 0
 
 -- ---- one byte
 
-unfoldable pub byte_read : List ℕ → ℕ → Read
-byte_read m at = cond (length_allowed (length m)) (cond (ltb at (length m)) (Byte (get_or m at 0)) (Unread Outside)) (Unread Length)
+unfoldable pub byte_read : List ℕ → ℕ → Result ℕ Refusal
+byte_read m at = cond (length_allowed (length m)) (cond (ltb at (length m)) (Ok (get_or m at 0)) (Err Outside)) (Err Length)
 
-unfoldable pub write_answer : List ℕ → ℕ → Answer
-write_answer m at = cond (length_allowed (length m)) (cond (ltb at (length m)) Done (Refused Outside)) (Refused Length)
+unfoldable pub write_answer : List ℕ → ℕ → Result (Unit {0}) Refusal
+write_answer m at = cond (length_allowed (length m)) (cond (ltb at (length m)) (Ok tt) (Err Outside)) (Err Length)
 
 -- a refusal leaves the memory as it was
 unfoldable pub byte_written : List ℕ → ℕ → ℕ → List ℕ

@@ -15,21 +15,7 @@ pub enum Refusal {
     Outside,
 }
 
-// What a write or a transfer answers.
-#[derive(Clone, Copy)]
-pub enum Answer {
-    Done,
-    Refused(Refusal),
-}
-
-// What a read answers.
-#[derive(Clone, Copy)]
-pub enum Read {
-    Byte(u8),
-    Unread(Refusal),
-}
-
-// Document 01's number of a refusal, and of an answer.
+// Document 01's number of a refusal, and of an answer: functions by name, as the definitions that their clauses cite.
 pub fn refusal_number(why: Refusal) -> u8
     ensures { result ≡ refusal_number why }
 {
@@ -40,51 +26,48 @@ pub fn refusal_number(why: Refusal) -> u8
     }
 }
 
-pub fn answer_number(a: Answer) -> u8
+pub fn answer_number(a: Result<(), Refusal>) -> u8
     ensures { result ≡ answer_number a }
 {
-    if let Answer::Refused(why) = a {
-        return refusal_number(why);
+    match a {
+        Ok(()) => 0,
+        Err(why) => refusal_number(why),
     }
-    0
 }
 
 // Whether a memory may be so long: number 3 is for any other length.
 pub fn length_allowed(n: usize) -> bool
     ensures { result ≡ length_allowed n }
 {
-    (4096 <= n) & (n <= 2_097_152) & (n % 4 == 0)
+    4096 <= n && n <= 2_097_152 && n % 4 == 0
 }
 
 // The byte at a place of the memory.
 #[tactic(auto, unfolding(crate::specs::Memory::byte_read, crate::specs::Memory::byte_number, crate::specs::Memory::byte_value))]
-pub fn read_byte(mem: &[u8], at: usize) -> Read
+pub fn read_byte(mem: &[u8], at: usize) -> Result<u8, Refusal>
     ensures value { result ≡ byte_read mem.now at }
     ensures result_value { read_number result ≡ byte_number (length mem.now) at }
     ensures result_value_2 { read_value result ≡ byte_value mem.now at }
 {
     if !length_allowed(mem.len()) {
-        return Read::Unread(Refusal::Length);
+        return Err(Refusal::Length);
     }
-    if at < mem.len() {
-        return Read::Byte(mem[at]);
-    }
-    Read::Unread(Refusal::Outside)
+    mem.get(at).copied().ok_or(Refusal::Outside)
 }
 
-// The byte at a place of the memory becomes v.
-#[tactic(auto, unfolding(crate::specs::Memory::write_answer, crate::specs::Memory::byte_number))]
-pub fn write_byte(mem: &mut [u8], at: usize, v: u8) -> Answer
+// The byte at a place of the memory becomes v. The place is tested: what `get_mut` lends says nothing of the memory after it.
+#[tactic(auto, unfolding(crate::specs::Memory::write_answer, crate::specs::Memory::byte_number, crate::specs::Memory::byte_written))]
+pub fn write_byte(mem: &mut [u8], at: usize, v: u8) -> Result<(), Refusal>
     ensures value { result ≡ write_answer mem.old at }
     ensures result_value { answer_number result ≡ byte_number (length mem.old) at }
     ensures mem_after { mem.new ≡ byte_written mem.old at v }
 {
     if !length_allowed(mem.len()) {
-        return Answer::Refused(Refusal::Length);
+        return Err(Refusal::Length);
     }
-    if at < mem.len() {
-        mem[at] = v;
-        return Answer::Done;
+    if at >= mem.len() {
+        return Err(Refusal::Outside);
     }
-    Answer::Refused(Refusal::Outside)
+    mem[at] = v;
+    Ok(())
 }

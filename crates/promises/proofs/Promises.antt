@@ -19,7 +19,6 @@ use Rattle.chip_registers.specs.Indexes.{index_kept, fits}
 use Rattle.chip_registers.specs.WriteRule.{written}
 use Rattle.chip_registers.specs.declared.Group.{Group}
 use Rattle.chip_registers.specs.declared.Group.TheVariants.{Ar, Palmask}
-use Rattle.chip_registers.specs.declared.Row.TheVariants.{Unlisted}
 use Rattle.chip_registers.proofs.PrintedRows as printed-rows
 use Rattle.chip_registers.proofs.PrintedRows.{as_printed, printed}
 use Rattle.chip_registers.proofs.RowLaws as row_laws
@@ -64,17 +63,13 @@ use Rattle.blit.proofs.Laws as blit-laws
 use Rattle.script_steps.specs.Step.{legal, idle, judged}
 use Rattle.script_steps.specs.declared.Step.{Step}
 use Rattle.script_steps.specs.declared.Step.TheVariants.{Set, Field}
-use Rattle.script_steps.specs.declared.StepRead.TheVariants.{Refused}
 use Rattle.script_steps.specs.declared.Fault.TheVariants.{Unallowed, Idle}
 use Rattle.script_steps.proofs.Lawful as lawful
 use Rattle.script.specs.File.{blocks, step_count, checked}
 use Rattle.script.specs.Numbers.{of_checked, checked_table}
 use Rattle.script.specs.Reader.{next_of}
-use Rattle.script.specs.declared.Checked.TheVariants.{Accepted}
-use Rattle.script.specs.declared.Next.TheVariants.{End}
 use Rattle.script.proofs.Checking as checking
 use Rattle.script_writer.specs.Write.{file_of, written as listWritten, left_by as listLeftBy, of_written, written_table, steps_of}
-use Rattle.script_writer.specs.declared.Written.TheVariants.{Blocks}
 use Rattle.script_writer.proofs.RoundTrip as round_trip
 use Rattle.script_writer.proofs.Writing as writing
 use Rattle.script_commands.specs.Command.{bytes_of_all}
@@ -82,15 +77,13 @@ use Rattle.script_commands.specs.Translation.{steps_to, commands_to, begins, tra
 use Rattle.script_commands.proofs.Translating as translating
 use Rattle.script_commands.proofs.Counted as counted
 use Rattle.script_commands.proofs.Counted.{sixes, places_to}
-use Rattle.chip_run.specs.Run.{ran, did, altering, carry, Still, of_ending, least, run_table}
+use Rattle.chip_run.specs.Run.{ran, did, altering, carry, Still, of_ending, least, run_table, tally}
 use Rattle.chip_run.specs.declared.Ending.{Ending}
 use Rattle.chip_run.proofs.RunLaws as run-laws
 use Rattle.chip_run.proofs.RunNumbers as run-number-laws
 use Rattle.chip_run.proofs.ChangingLaws as changing-laws
-use Rattle.chip_run.specs.declared.Verdict.TheVariants.{Done as Carried}
 use Rattle.script_commands.specs.declared.Command.{Command}
 use Rattle.script_commands.specs.declared.Command.TheVariants.{Out}
-use Rattle.script_commands.specs.declared.CommandRead.{CommandRead}
 use Rattle.script_short.specs.Short.{is_index_port, left_out, omitted, short_to, short_begins, short_translated, short_table}
 use Rattle.script_short.proofs.ShortLaws as short-laws
 use Rattle.chip_play.specs.ByName.{applied, applied_all, steps_changing}
@@ -109,17 +102,17 @@ use Rattle.lent_chip.specs.Layout.{whole, laid, view, spare}
 use Rattle.lent_chip.specs.Accesses.{Left}
 use Rattle.lent_chip.proofs.Whole as whole-laws
 use Rattle.lent_run.specs.Run.{run_answer}
-use Rattle.lent_run.specs.declared.LentRan.{LentRan}
-use Rattle.lent_run.specs.declared.LentRan.TheVariants.{Ran}
 use Rattle.lent_play.proofs.Demand3 as lent-scripts
 use Rattle.text_from_script.specs.Show.{text_of}
 use Rattle.text_to_script.specs.Compose.{composed, left_by as textLeftBy}
-use Rattle.text_to_script.specs.declared.Composed.TheVariants.{Blocks as ComposedBlocks}
 use Rattle.text_to_script.proofs.SameFile as same-file-laws
 use Rattle.cases.specs.Cases.{all_hold}
 use Rattle.cases.specs.Starred.{starred}
 use Rattle.cases.proofs.Holding as starred-laws
 use Rattle.cases_requests.specs.Asked.{asked}
+use Rattle.std.specs.Prelude.{Result, Option, Ok, Err, None}
+use Rattle.lent_chip.specs.declared.access.StateError.{StateError}
+use Rattle.chip_run.specs.declared.Tally.{Tally}
 use Rattle.cases_requests.proofs.Holding as asked-laws
 
 -- ==== 1. Everything is accepted: each number exactly when, and a refusal changes nothing
@@ -199,10 +192,10 @@ pub bits_fixed : {first second : ℕ} {c : Chip} → Reach first second c → (g
     → bit k (register g (named c) i) ≡ bit k (reset_byte first second g i)
 bits_fixed = reach-laws.fixed_bits
 
-pub unlisted_00 : (k : Kept) (g : Group) (i : ℕ) → i < 0x100 → row_of g i ≡ Unlisted → register g (named (shown_by k)) i ≡ 0x00
+pub unlisted_00 : (k : Kept) (g : Group) (i : ℕ) → i < 0x100 → row_of g i ≡ None → register g (named (shown_by k)) i ≡ 0x00
 unlisted_00 k g i h none = view_laws.unlisted_shows_00 g k i h none
 
-pub unlisted_00_on_lent_bytes : (l : List ℕ) (g : Group) (i : ℕ) → i < 0x100 → row_of g i ≡ Unlisted → register g (named (view l)) i ≡ 0x00
+pub unlisted_00_on_lent_bytes : (l : List ℕ) (g : Group) (i : ℕ) → i < 0x100 → row_of g i ≡ None → register g (named (view l)) i ≡ 0x00
 unfolding view
 unlisted_00_on_lent_bytes l g i h none = view_laws.unlisted_shows_00 g (laid l) i h none
 
@@ -221,25 +214,25 @@ pub pixel_shown : (n : Named) (p e : ℕ) → p < 0x100 → e < 0x100 → ((k : 
 pixel_shown n p e hp he both = (shown-laws.shown-eight n p e hp he both, shown-laws.shown-six n p e hp he both)
 
 -- A script written into blocks reads back as the same steps, and accepted blocks write back to the same bytes.
-pub written-reads_back : (s : List ℕ) (room n : ℕ) → listWritten s room ≡ Blocks n
-    → (checked (file_of s) ≡ Accepted (length s / 6)) × (steps_of (file_of s) (length s / 6) ≡ s)
-    × ((j : ℕ) → length s / 6 ≤ j → next_of (file_of s) j ≡ End)
+pub written-reads_back : (s : List ℕ) (room n : ℕ) → listWritten s room ≡ Ok n
+    → (checked (file_of s) ≡ Ok (length s / 6)) × (steps_of (file_of s) (length s / 6) ≡ s)
+    × ((j : ℕ) → length s / 6 ≤ j → next_of (file_of s) j ≡ Ok None)
 written-reads_back s room n e = let r = round_trip.written_read s room n e in (r.accepted, r.steps, r.end)
 
-pub read_writes_back : (f : List ℕ) (m : ℕ) → Bytes f → checked f ≡ Accepted m → (out : List ℕ) → length f ≤ length out
-    → (listWritten (steps_of f m) (length out) ≡ Blocks (blocks f)) × (listLeftBy (Blocks (blocks f)) (steps_of f m) out ≡ put out 0 f)
+pub read_writes_back : (f : List ℕ) (m : ℕ) → Bytes f → checked f ≡ Ok m → (out : List ℕ) → length f ≤ length out
+    → (listWritten (steps_of f m) (length out) ≡ Ok (blocks f)) × (listLeftBy (Ok (blocks f)) (steps_of f m) out ≡ put out 0 f)
 read_writes_back f m bytes acc out h = let r = round_trip.read-written f m bytes acc out h in (r.answer, r.left)
 
 -- The text that is shown of an accepted file composes to the same file.
-pub shown_composes_back : (f : List ℕ) (m : ℕ) → Bytes f → checked f ≡ Accepted m → (out : List ℕ) → length f ≤ length out
-    → (composed (text_of f) (length out) ≡ ComposedBlocks (blocks f)) × (textLeftBy (ComposedBlocks (blocks f)) (text_of f) out ≡ put out 0 f)
+pub shown_composes_back : (f : List ℕ) (m : ℕ) → Bytes f → checked f ≡ Ok m → (out : List ℕ) → length f ≤ length out
+    → (composed (text_of f) (length out) ≡ Ok (blocks f)) × (textLeftBy (Ok (blocks f)) (text_of f) out ≡ put out 0 f)
 shown_composes_back f m bytes acc out h = let r = same-file-laws.same_file f m bytes acc out h in (r.answer, r.left)
 
 -- ==== 3. A script does what it says, from any state that accesses reach from a reset with ports open
 
 -- After the commands of the first n steps of an accepted file: all were carried out and none refused, everything that has a
 -- name is what these steps say by name, and bit 5 of the attribute index is what it was.
-pub demand_3 : (file : List ℕ) (m : ℕ) → checked file ≡ Accepted m → (first second : ℕ) → is_set 1 first ≡ true → (c : Chip) → Reach first second c
+pub demand_3 : (file : List ℕ) (m : ℕ) → checked file ≡ Ok m → (first second : ℕ) → is_set 1 first ≡ true → (c : Chip) → Reach first second c
     → (n : ℕ) → n ≤ m
     → ((ran c (bytes_of_all (commands_to file m)) (begins file n)).count ≡ begins file n)
     × (of_ending (ran c (bytes_of_all (commands_to file m)) (begins file n)).ending ≡ returned 0 0)
@@ -252,20 +245,20 @@ demand_3 file m acc first second strapped c reach n h =
 -- It is not had by a reader that hands out nothing, nor by a check that accepts nothing: the first n steps of an accepted file
 -- are n, their bytes are those at the file's places, and every list of 1 to 1,008 steps that pass is the list of an accepted
 -- file.
-pub demand_3-counted : (f : List ℕ) (m : ℕ) → checked f ≡ Accepted m → (n : ℕ) → n ≤ m
+pub demand_3-counted : (f : List ℕ) (m : ℕ) → checked f ≡ Ok m → (n : ℕ) → n ≤ m
     → (length (steps_to f n) ≡ n) × (sixes (steps_to f n) ≡ places_to f n)
 demand_3-counted f m acc n h = (counted.steps_counted f m acc n h, counted.steps_stand f m acc n h)
 
 pub demand_3_every_script : (ss : List Step) → 1 ≤ length ss → length ss ≤ 1008 → AllPass ss
-    → (file : List ℕ) × (checked file ≡ Accepted (length ss)) × (steps_to file (length ss) ≡ ss)
+    → (file : List ℕ) × (checked file ≡ Ok (length ss)) × (steps_to file (length ss) ≡ ss)
 demand_3_every_script ss some few pass = let r = script-laws.script_there ss some few pass in (r.file, r.accepted, r.steps)
 
 -- The same on lent bytes, after each step, of any bytes that hold a chip whose ports are open: what `run` of `lent_run`
 -- answers, and leaves.
-pub demand_3_on_lent_bytes : (file : List ℕ) (m : ℕ) → checked file ≡ Accepted m → (l : List ℕ) → length l ≡ whole → ports_open (named (view l)) ≡ true
-    → (n : ℕ) → n ≤ m → (r : LentRan) (after : List ℕ) → r ≡ run_answer l (bytes_of_all (commands_to file m)) (begins file n)
+pub demand_3_on_lent_bytes : (file : List ℕ) (m : ℕ) → checked file ≡ Ok m → (l : List ℕ) → length l ≡ whole → ports_open (named (view l)) ≡ true
+    → (n : ℕ) → n ≤ m → (r : Result Tally StateError) (after : List ℕ) → r ≡ run_answer l (bytes_of_all (commands_to file m)) (begins file n)
     → Left l (ran (view l) (bytes_of_all (commands_to file m)) (begins file n)).chip (spare l) after
-    → ((e : Ending) × (r ≡ Ran (begins file n) (steps_changing (steps_to file n) (named (view l))) e) × (of_ending e ≡ returned 0 0))
+    → ((e : Ending) × (r ≡ Ok (tally (begins file n) (steps_changing (steps_to file n) (named (view l))) e)) × (of_ending e ≡ returned 0 0))
     × (named (view after) ≡ applied_all (steps_to file n) (named (view l))) × ((view after).picture ≡ (view l).picture)
 demand_3_on_lent_bytes file m acc l size open-ports n h r after answer left =
     let a = (lent-scripts.demand_3_in).holds file m acc l size open-ports n h r after answer left in
@@ -290,10 +283,10 @@ p1_attribute_by_port = attribute-laws.attribute_by_port
 
 -- P2. A step is refused with 7 where it is not legal, else with 11 where its register has no writable bit, else it passes; a
 -- step refused with 11 would have changed no register.
-pub p2_first_7 : (s : Step) → legal s ≡ false → judged s ≡ Refused Unallowed
+pub p2_first_7 : (s : Step) → legal s ≡ false → judged s ≡ Err Unallowed
 p2_first_7 = lawful.unallowed_first
 
-pub p2_then_11 : (s : Step) → legal s ≡ true → idle s ≡ true → judged s ≡ Refused Idle
+pub p2_then_11 : (s : Step) → legal s ≡ true → idle s ≡ true → judged s ≡ Err Idle
 p2_then_11 = lawful.idle-second
 
 pub p2_changes_nothing : (s : Step) (n : Named) → NamedBytes n → idle s ≡ true → (h : Group) (j : ℕ) → register h (applied s n) j ≡ register h n j
@@ -308,7 +301,7 @@ pub p5_folds_at_the_port : (c : Chip) (p v : ℕ) (g : Group) → ports_open (na
     → port_written c p v ≡ port_written c p (index_kept g v)
 p5_folds_at_the_port = index-laws.index_folds
 
-pub p5_misfit_is_7 : (g i : ℕ) → fits (group_at g) i ≡ false → ((v : ℕ) → judged (Set g i v) ≡ Refused Unallowed) × ((v m : ℕ) → judged (Field g i v m) ≡ Refused Unallowed)
+pub p5_misfit_is_7 : (g i : ℕ) → fits (group_at g) i ≡ false → ((v : ℕ) → judged (Set g i v) ≡ Err Unallowed) × ((v m : ℕ) → judged (Field g i v m) ≡ Err Unallowed)
 p5_misfit_is_7 g i misfit = (lawful.misfit_set g i misfit, lawful.misfit_field g i misfit)
 
 -- P6. A data write hands back the register's byte as it reads before it and after it; a refused write, and one that is of no
@@ -339,13 +332,13 @@ p6_same a b = (differ-laws.stored_same a b, differ-laws.same-stored a b)
 pub p6_at_most : (c : Chip) (bytes : List ℕ) (limit : ℕ) → (ran c bytes limit).changing ≤ (ran c bytes limit).count
 p6_at_most = changing-laws.changing_most
 
-pub p6_sum : (xs ys : List CommandRead) (c d : Chip) (a b : ℕ) → carry c a xs ≡ did Carried b d → altering c a (xs ++ ys) ≡ altering c a xs + altering d b ys
+pub p6_sum : (xs ys : List (Option Command)) (c d : Chip) (a b : ℕ) → carry c a xs ≡ did (Ok tt) b d → altering c a (xs ++ ys) ≡ altering c a xs + altering d b ys
 p6_sum = changing-laws.altering-append
 
-pub p6_none : (rs : List CommandRead) (c : Chip) (acc : ℕ) → (altering c acc rs ≡ 0) ↔ Still c acc rs
+pub p6_none : (rs : List (Option Command)) (c : Chip) (acc : ℕ) → (altering c acc rs ≡ 0) ↔ Still c acc rs
 p6_none = changing-laws.changing-none
 
-pub p6_steps : (f : List ℕ) (m : ℕ) → checked f ≡ Accepted m → (c : Chip) → ports_open (named c) ≡ true
+pub p6_steps : (f : List ℕ) (m : ℕ) → checked f ≡ Ok m → (c : Chip) → ports_open (named c) ≡ true
     → changing_of c f ≡ steps_changing (steps_to f (step_count f)) (named c)
 p6_steps = step_Counts.changing_script
 
@@ -373,7 +366,7 @@ p7_one_place = row_laws.slot-one
 pub p7_no_place_left : (k : ℕ) → k < row_size → slot_of (group_on k) (index_on k) ≡ At k
 p7_no_place_left = row_laws.each-slot
 
-pub p7_listed_only : (g : Group) (i : ℕ) → i < 0x100 → is_indexed g ≡ true → (slot_of g i ≡ Nowhere) ↔ (row_of g i ≡ Unlisted)
+pub p7_listed_only : (g : Group) (i : ℕ) → i < 0x100 → is_indexed g ≡ true → (slot_of g i ≡ Nowhere) ↔ (row_of g i ≡ None)
 p7_listed_only g i h x = (row_laws.nowhere_unlisted g i h x, row_laws.unlisted_nowhere g i h)
 
 -- P8. The short list. Its numbers are those of the table, 8, 6, 7 or 11, 9 at 32 bytes a step; the ports of its rule are exactly
@@ -398,7 +391,7 @@ p8_length f n = short-laws.short_length [] (commands_to f n)
 -- After the short commands of the first n steps of an accepted file, from any state that accesses reach from a reset with ports
 -- open: all were carried out and none refused, everything that has a name is what these steps say, bit 5 of the attribute index
 -- is what it was; and the whole state is the one that the plain commands of these steps leave, with as many changes on the way.
-pub p8_demand_3 : (file : List ℕ) (m : ℕ) → checked file ≡ Accepted m → (first second : ℕ) → is_set 1 first ≡ true → (c : Chip) → Reach first second c
+pub p8_demand_3 : (file : List ℕ) (m : ℕ) → checked file ≡ Ok m → (first second : ℕ) → is_set 1 first ≡ true → (c : Chip) → Reach first second c
     → (n : ℕ) → n ≤ m
     → ((ran c (bytes_of_all (short_to file m)) (short_begins file n)).count ≡ short_begins file n)
     × (of_ending (ran c (bytes_of_all (short_to file m)) (short_begins file n)).ending ≡ returned 0 0)
@@ -411,10 +404,10 @@ p8_demand_3 file m acc first second strapped c reach n h =
     (r.count, r.unrefused, r.as_named, r.picture, r.same, r.changing)
 
 -- The same on lent bytes, of any bytes that hold a chip whose ports are open: what `run` of `lent_run` answers, and leaves.
-pub p8_on_lent_bytes : (file : List ℕ) (m : ℕ) → checked file ≡ Accepted m → (l : List ℕ) → length l ≡ whole → ports_open (named (view l)) ≡ true
-    → (n : ℕ) → n ≤ m → (r : LentRan) (after : List ℕ) → r ≡ run_answer l (bytes_of_all (short_to file m)) (short_begins file n)
+pub p8_on_lent_bytes : (file : List ℕ) (m : ℕ) → checked file ≡ Ok m → (l : List ℕ) → length l ≡ whole → ports_open (named (view l)) ≡ true
+    → (n : ℕ) → n ≤ m → (r : Result Tally StateError) (after : List ℕ) → r ≡ run_answer l (bytes_of_all (short_to file m)) (short_begins file n)
     → Left l (ran (view l) (bytes_of_all (short_to file m)) (short_begins file n)).chip (spare l) after
-    → ((e : Ending) × (r ≡ Ran (short_begins file n) (steps_changing (steps_to file n) (named (view l))) e) × (of_ending e ≡ returned 0 0))
+    → ((e : Ending) × (r ≡ Ok (tally (short_begins file n) (steps_changing (steps_to file n) (named (view l))) e)) × (of_ending e ≡ returned 0 0))
     × (named (view after) ≡ applied_all (steps_to file n) (named (view l)))
     × (view after ≡ (ran (view l) (bytes_of_all (commands_to file m)) (begins file n)).chip)
 p8_on_lent_bytes file m acc l size open-ports n h r after answer left =

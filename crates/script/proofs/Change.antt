@@ -17,10 +17,10 @@ use Rattle.lists.proofs.Tests.{units}
 use Rattle.script.specs.Block.{block_legal}
 use Rattle.script.specs.File.{blocks, block, legal_at, checked}
 use Rattle.script.specs.declared.Refusal.TheVariants.{Block}
-use Rattle.script.specs.declared.Checked.TheVariants.{Accepted, Refused}
 use Rattle.script.proofs.Check.{check_changed}
 use Rattle.script.proofs.Checking.{Legal, answer_says, check_block}
 use Rattle.script.proofs.Rules.{legal_rules}
+use Rattle.std.specs.Prelude.{Ok, Err}
 
 -- ---- a block
 pub block-changed : (b : List ℕ) (k : ℕ) (last : Bool) → block_legal b k last ≡ true → (i v : ℕ) → i < 512 → v < 256 → get_or b i 0 < 256
@@ -31,7 +31,7 @@ block-changed b k last e i v hi hv ho ne k' last' =
     rw (check_changed b i v r.size hi hv ho ne r.sum, and-false)
 
 -- ---- a file: byte i lies in block i / 512
-module _ (f : List ℕ) (m : ℕ) (acc : checked f ≡ Accepted m) (bytes : Bytes f) (i v : ℕ) (hi : i < length f) (hv : v < 256) (ne : v ≡ get_or f i 0 → ⊥) where
+module _ (f : List ℕ) (m : ℕ) (acc : checked f ≡ Ok m) (bytes : Bytes f) (i v : ℕ) (hi : i < length f) (hv : v < 256) (ne : v ≡ get_or f i 0 → ⊥) where
   abbrev k : ℕ
   k = i / 512
 
@@ -81,7 +81,7 @@ module _ (f : List ℕ) (m : ℕ) (acc : checked f ≡ Accepted m) (bytes : Byte
       ∙ block-changed (block f k) k (eqb (k + 1) (blocks f)) (end_first (legal_at f) (blocks f) legal.blocks-legal k k_there)
       (i % 512) v (omega arith) hv (omega (arith, byte_here, bytes i)) (λ q. ne (q ∙ byte_here)) k (eqb (k + 1) (blocks g))
 
-  pub file_changed : checked (set f i v) ≡ Refused (Block (i / 512))
+  pub file_changed : checked (set f i v) ≡ Err (Block (i / 512))
   file_changed =
       let l = same_length in
       let n = k_there in

@@ -16,10 +16,9 @@ use Rattle.script.specs.File.{whole_blocks, blocks, legal_at, first_bad_block, s
 use Rattle.script.specs.Numbers.{of_refusal, of_checked, checks_table, checked_table}
 use Rattle.script.specs.declared.Layout.TheVariants.{Blocks}
 use Rattle.script.specs.declared.Refusal.{Refusal}
-use Rattle.script.specs.declared.Refusal.TheVariants.{Length, Block, Step, Room}
-use Rattle.script.specs.declared.Checked.{Checked}
-use Rattle.script.specs.declared.Checked.TheVariants.{Accepted, Refused}
+use Rattle.script.specs.declared.Refusal.TheVariants.{Length, Block, Step as AtStep, Room}
 use Rattle.script.proofs.StepLaws.{BadAt, StepsSay, steps_say, say_steps, steps_number}
+use Rattle.std.specs.Prelude.{Result, Ok, Err}
 
 -- ---- number and value: the table of document 01 is what the answer says
 pub checked-number : (f : List ℕ) → of_checked (checked f) ≡ checked_table f
@@ -29,16 +28,13 @@ checked-number f =
     (ap (λ (x : Returned). cond (not (whole_blocks f)) (returned 8 0) (cond (ltb (first_bad_block f) (blocks f)) (returned 6 (first_bad_block f)) x))
     (steps_number of_checked (λ r. refl) Blocks f (step_count f)))
 
-pub answered : (f : List ℕ) {r : Checked} → checked f ≡ r → (r ≡ checked f) × (of_checked r ≡ checked_table f)
-answered f e = (sym e, ap of_checked (sym e) ∙ checked-number f)
-
 -- ---- the answer, case by case in its order
-pub check_length : (f : List ℕ) → whole_blocks f ≡ false → checked f ≡ Refused Length
+pub check_length : (f : List ℕ) → whole_blocks f ≡ false → checked f ≡ Err Length
 unfolding checked
 check_length f w = rw w
 
 module _ (f : List ℕ) (w : whole_blocks f ≡ true) (k : ℕ) (e : k ≡ first_bad_block f) where
-  pub check_block : k < blocks f → checked f ≡ Refused (Block k)
+  pub check_block : k < blocks f → checked f ≡ Err (Block k)
   unfolding checked
   check_block h = rw (w, ← e, lt-ltb _ _ h)
 
@@ -63,12 +59,12 @@ pub record Legal (f : List ℕ) (m : ℕ) : Type 0 where
   pub count : step_count f ≡ m
   pub steps_legal : first_bad_step Blocks f m ≡ m
 
-abbrev pub Says : List ℕ → Checked → Type 0
-Says f (Accepted m) = Legal f m
-Says f (Refused Length) = whole_blocks f ≡ false
-Says f (Refused (Block k)) = BadBlock f k
-Says f (Refused (Step j why)) = BadStep f j why
-Says f (Refused Room) = ⊥
+abbrev pub Says : List ℕ → Result ℕ Refusal → Type 0
+Says f (Ok m) = Legal f m
+Says f (Err Length) = whole_blocks f ≡ false
+Says f (Err (Block k)) = BadBlock f k
+Says f (Err (AtStep j why)) = BadStep f j why
+Says f (Err Room) = ⊥
 
 -- it says what is so
 pub checked-says : (f : List ℕ) → Says f (checked f)
@@ -78,13 +74,13 @@ checked-says f =
     all_blocks : ltb (first_bad_block f) (blocks f) ≡ false → first_bad_block f ≡ blocks f
     all_blocks e = omega (arith, ltb-false (first_bad_block f) (blocks f) e, first_le (legal_at f) 0 (blocks f))
 
-    all_steps : whole_blocks f ≡ true → first_bad_block f ≡ blocks f → (r : Checked) → StepsSay Blocks f (step_count f) r → Says f r
-    all_steps w b (Accepted m) a =
+    all_steps : whole_blocks f ≡ true → first_bad_block f ≡ blocks f → (r : Result ℕ Refusal) → StepsSay Blocks f (step_count f) r → Says f r
+    all_steps w b (Ok m) a =
         record { whole = w; blocks-legal = b; count = a.count; steps_legal = rw a.count at a.none }
-    all_steps w b (Refused (Step j why)) a = record { whole = w; blocks-legal = b; bad = a }
-    all_steps w b (Refused Length) a = absurd a
-    all_steps w b (Refused (Block k)) a = absurd a
-    all_steps w b (Refused Room) a = absurd a
+    all_steps w b (Err (AtStep j why)) a = record { whole = w; blocks-legal = b; bad = a }
+    all_steps w b (Err Length) a = absurd a
+    all_steps w b (Err (Block k)) a = absurd a
+    all_steps w b (Err Room) a = absurd a
 
     go : (a : Bool) → whole_blocks f ≡ a → (b : Bool) → ltb (first_bad_block f) (blocks f) ≡ b → Says f (checked f)
     go false ea b eb = rw (check_length f ea) ea
@@ -96,22 +92,22 @@ checked-says f =
         (all_steps ea (all_blocks eb) (steps_checked Blocks f 0 (step_count f)) (steps_say Blocks f (step_count f)))
 
 -- and what is so decides it
-pub says-checked : (f : List ℕ) (r : Checked) → Says f r → checked f ≡ r
-says-checked f (Accepted m) l =
+pub says-checked : (f : List ℕ) (r : Result ℕ Refusal) → Says f r → checked f ≡ r
+says-checked f (Ok m) l =
     check_all f l.whole (blocks f) (sym l.blocks-legal) (omega arith)
-    ∙ say_steps Blocks f (step_count f) (Accepted m) (record { count = l.count; none = rw l.count l.steps_legal })
-says-checked f (Refused Length) w = check_length f w
-says-checked f (Refused (Block k)) b = check_block f b.whole k (sym b.first) b.there
-says-checked f (Refused (Step j why)) b =
-    check_all f b.whole (blocks f) (sym b.blocks-legal) (omega arith) ∙ say_steps Blocks f (step_count f) (Refused (Step j why)) b.bad
-says-checked f (Refused Room) w = absurd w
+    ∙ say_steps Blocks f (step_count f) (Ok m) (record { count = l.count; none = rw l.count l.steps_legal })
+says-checked f (Err Length) w = check_length f w
+says-checked f (Err (Block k)) b = check_block f b.whole k (sym b.first) b.there
+says-checked f (Err (AtStep j why)) b =
+    check_all f b.whole (blocks f) (sym b.blocks-legal) (omega arith) ∙ say_steps Blocks f (step_count f) (Err (AtStep j why)) b.bad
+says-checked f (Err Room) w = absurd w
 
-pub answer_says : (f : List ℕ) {r : Checked} → checked f ≡ r → Says f r
+pub answer_says : (f : List ℕ) {r : Result ℕ Refusal} → checked f ≡ r → Says f r
 answer_says f e = subst (Says f) e (checked-says f)
 
 -- ---- the table of whatever begins with the check: past an accepted file what comes after, and else the refusal's number and
 -- value
-pub accepted_table : (f : List ℕ) (m : ℕ) → checked f ≡ Accepted m → (x : Returned) → checks_table f x ≡ x
+pub accepted_table : (f : List ℕ) (m : ℕ) → checked f ≡ Ok m → (x : Returned) → checks_table f x ≡ x
 accepted_table f m acc x =
     let l : Legal f m = answer_says f acc in
     let b : ltb (first_bad_block f) (blocks f) ≡ false = le-ltb (first_bad_block f) (blocks f) (omega arith) in
@@ -119,13 +115,13 @@ accepted_table f m acc x =
     ap (λ (n : ℕ). ltb (first_bad_step Blocks f n) n) l.count ∙ le-ltb (first_bad_step Blocks f m) m (omega arith) in
     rw (l.whole, b, s)
 
-pub refused_table : (f : List ℕ) (why : Refusal) → checked f ≡ Refused why → (x : Returned) → checks_table f x ≡ of_refusal why
+pub refused_table : (f : List ℕ) (why : Refusal) → checked f ≡ Err why → (x : Returned) → checks_table f x ≡ of_refusal why
 refused_table f why e x = go why (answer_says f e)
   where
-    go : (r : Refusal) → Says f (Refused r) → checks_table f x ≡ of_refusal r
+    go : (r : Refusal) → Says f (Err r) → checks_table f x ≡ of_refusal r
     go Length w = rw w
     go (Block k) b = rw (b.whole, b.first, lt-ltb _ _ b.there)
-    go (Step j why) b =
+    go (AtStep j why) b =
         let q : ltb (first_bad_block f) (blocks f) ≡ false = le-ltb (first_bad_block f) (blocks f) (omega arith) in
         rw (b.whole, q, b.bad.first, lt-ltb _ _ b.bad.there, b.bad.read)
     go Room w = absurd w

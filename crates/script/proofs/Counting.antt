@@ -14,9 +14,9 @@ use Rattle.lists.proofs.Parts.{get_d_part}
 use Rattle.lists.proofs.Scan.{end_first}
 use Rattle.lists.proofs.Tests.{units}
 use Rattle.script.specs.File.{whole_blocks, blocks, block, legal_at, step_count, checked}
-use Rattle.script.specs.declared.Checked.TheVariants.{Accepted}
 use Rattle.script.proofs.Checking.{Legal, answer_says}
 use Rattle.script.proofs.Rules.{Rules, legal_rules, count_few}
+use Rattle.std.specs.Prelude.{Ok}
 
 -- a file of bytes has at most 84 steps a block, and 255 more, whatever its last block says
 pub count_most : (f : List ℕ) → Bytes f → step_count f ≤ 84 * blocks f + 255
@@ -47,7 +47,7 @@ module _ (f : List ℕ) (m : ℕ) (l : Legal f m) where
       let c = count_few (get_or (block f b) 2 0) (eqb (b + 1) (blocks f)) (block-kept b (omega arith)).count in
       (omega (arith, count_last), omega (arith, count_last))
 
-pub accepted_few : (f : List ℕ) (m : ℕ) → checked f ≡ Accepted m → (1 ≤ m) × (m ≤ 1008)
+pub accepted_few : (f : List ℕ) (m : ℕ) → checked f ≡ Ok m → (1 ≤ m) × (m ≤ 1008)
 accepted_few f m acc = legal_few f m (answer_says f acc)
 
 -- ---- a file that is too long, of which 6,145 bytes are enough to see it

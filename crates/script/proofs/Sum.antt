@@ -1,8 +1,8 @@
 -- Laws of the sum of the words: a turn of the loop that adds them, two lists, and one byte changed. The
 -- inductions go by two bytes.
-use mathlib.Core.Path.{◌≡◌, refl}
+use mathlib.Core.Path.{◌≡◌, refl, ap}
 use mathlib.Core.List.{List, [], ◌∷◌, ◌++◌}
-use Prim.Native.Nat.{ℕ, zero, suc, ◌+◌, ◌*◌, ◌≤◌, ◌<◌}
+use Prim.Native.Nat.{ℕ, zero, suc, ◌+◌, ◌*◌, ◌/◌, ◌%◌, ◌≤◌, ◌<◌}
 use native.Mathlib.Numerals.{add-one, add-two}
 use native.Mathlib.Omega.{arith}
 use lib.ListN.{length, drop, get_or, set, length-drop}
@@ -25,6 +25,14 @@ sum_none l i h = go (drop i l) (simp length-drop (omega arith))
     go [] p = refl
     go (x ∷ []) p = refl
     go (x ∷ y ∷ r) p = absurd (omega arith)
+
+-- a turn of the loop that adds them modulo 65,536: the word at 2 * i goes from what is still to come to what was added
+pub sum_turn : (l : List ℕ) (i s w : ℕ) → i < length l / 2 → w ≡ word l (2 * i)
+    → ((s + w) % 65536 + word_sum (drop (2 * (i + 1)) l)) % 65536 ≡ (s + word_sum (drop (2 * i) l)) % 65536
+sum_turn l i s w h e =
+    let e' : 2 * i + 2 ≡ 2 * (i + 1) = omega arith in
+    let d : word_sum (drop (2 * i + 2) l) ≡ word_sum (drop (2 * (i + 1)) l) = ap (λ (n : ℕ). word_sum (drop n l)) e' in
+    omega (arith, sum_more l (2 * i) (omega arith))
 
 -- the words of two lists, the first of an even length
 pub sum_append : (m : ℕ) (l r : List ℕ) → length l ≡ m + m → word_sum (l ++ r) ≡ word_sum l + word_sum r

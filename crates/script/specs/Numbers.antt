@@ -1,37 +1,34 @@
 -- Document 01's numbers for each answer, with the value returned beside it (Numbers returned): one
 -- definition to an answer, and the tables of numbers for the reader, for steps and for a checked file, which the answers are
 -- proved to meet. The number of one step is the crate script_steps'.
-use Rattle.std.specs.Prelude.{ℕ, List, cond, not, ltb}
+use Rattle.std.specs.Prelude.{ℕ, List, cond, not, ltb, Result, Option, Ok, Err, Some, None}
 use Rattle.lists.specs.Numbers.{Returned, returned}
 use Rattle.script_steps.specs.Step.{fault_number, of_step_read}
 use Rattle.script.specs.File.{whole_blocks, blocks, first_bad_block, step_count, step_at, first_bad_step}
 use Rattle.script.specs.declared.Layout.{Layout}
 use Rattle.script.specs.declared.Layout.TheVariants.{Blocks}
 use Rattle.script.specs.declared.Refusal.{Refusal}
-use Rattle.script.specs.declared.Refusal.TheVariants.{Length, Block, Step, Room}
-use Rattle.script.specs.declared.Checked.{Checked}
-use Rattle.script.specs.declared.Checked.TheVariants.{Accepted, Refused}
-use Rattle.script.specs.declared.Next.{Next}
-use Rattle.script.specs.declared.Next.TheVariants.{Found, Refused as NoStep, End}
+use Rattle.script_steps.specs.declared.Step.{Step}
+use Rattle.script.specs.declared.Refusal.TheVariants.{Length, Block, Step as AtStep, Room}
 
 -- 6 a block breaks a rule: block number; 7 a step is none of the allowed, 11 a step can do nothing: step
 -- number; 8 not whole blocks or steps; 9 too little room
 abbrev pub of_refusal : Refusal → Returned
 of_refusal (Block k) = returned 6 k
-of_refusal (Step j why) = returned (fault_number why) j
+of_refusal (AtStep j why) = returned (fault_number why) j
 of_refusal Length = returned 8 0
 of_refusal Room = returned 9 0
 
 -- 0 done: the number of steps
-abbrev pub of_checked : Checked → Returned
-of_checked (Accepted m) = returned 0 m
-of_checked (Refused r) = of_refusal r
+abbrev pub of_checked : Result ℕ Refusal → Returned
+of_checked (Ok m) = returned 0 m
+of_checked (Err r) = of_refusal r
 
 -- 0 done: the answer is the step, or the end, and no number
-abbrev pub of_next : Next → Returned
-of_next (Found s) = returned 0 0
-of_next (NoStep r) = of_refusal r
-of_next End = returned 0 0
+abbrev pub of_next : Result (Option Step) Refusal → Returned
+of_next (Ok (Some s)) = returned 0 0
+of_next (Err r) = of_refusal r
+of_next (Ok None) = returned 0 0
 
 -- the table for the reader at step j: of what is read there, before the end
 abbrev pub next_table : List ℕ → ℕ → Returned

@@ -4,16 +4,16 @@
 // a struct over the bytes is the crate script_reader, and making a file is the crate script_writer.
 #![tactic(auto)]
 
-ghost use Rattle.std.specs.Prelude.{◌≡◌, ◌+◌, ◌*◌, ◌%◌, ◌/◌, ◌≤◌, length, take, drop};
+ghost use Rattle.std.specs.Prelude.{◌≡◌, ◌+◌, ◌*◌, ◌%◌, ◌/◌, ◌≤◌, take, drop};
 ghost use Rattle.lists.specs.Numbers.{returned};
 ghost use Rattle.script_steps.specs.Step.{step_read_number, bytes_table};
 ghost use Rattle.script.specs.Block.{word_sum, check_word, last_mark, count_legal, unused_zero, content_legal, block_legal};
 ghost use Rattle.script.specs.File.{first_bad_block, step_count, step_place, step_at, steps_checked, checked};
-ghost use Rattle.script.specs.Reader.{as_next, next_of, turned};
+ghost use Rattle.script.specs.Reader.{next_of, turned};
 ghost use Rattle.script.specs.Numbers.{of_refusal, of_checked, of_next, next_table, steps_table, checked_table};
 
-use lists::{is_whole, wide};
-use script_steps::{Fault, Step, StepRead, read_at};
+use lists::is_whole;
+use script_steps::{Fault, Step, read_at};
 
 // How steps stand in a list of bytes: one after another, or in the blocks of a file.
 #[derive(Clone, Copy)]
@@ -51,25 +51,9 @@ impl Refusal {
         match self {
             Refusal::Block(k) => k,
             Refusal::Step(j, _) => j,
-            Refusal::Length => 0,
-            Refusal::Room => 0,
+            Refusal::Length | Refusal::Room => 0,
         }
     }
-}
-
-// What checking a file answers: its number of steps, or the refusal.
-#[derive(Clone, Copy)]
-pub enum Checked {
-    Accepted(usize),
-    Refused(Refusal),
-}
-
-// What the reader answers: a step, the refusal, or after the last step the end.
-#[derive(Clone, Copy)]
-pub enum Next {
-    Found(Step),
-    Refused(Refusal),
-    End,
 }
 
 // The reader as a position beside the caller's bytes: the number of the step that it stands at.
@@ -81,21 +65,20 @@ pub struct Position {
 // What a turn of the reader gives: its answer, and where it then stands.
 #[derive(Clone, Copy)]
 pub struct Turn {
-    pub next: Next,
+    pub next: Result<Option<Step>, Refusal>,
     pub place: Position,
 }
 
 // The sum of the words, modulo 65,536.
+#[tactic(auto, using(crate::proofs::Sum::sum_turn, crate::proofs::Sum::sum_none))]
 pub fn word_sum(list: &[u8]) -> usize
     ensures { result ≡ word_sum list.now % 65536 }
 {
-    let mut sum = 0;
-    let mut i = 0;
-    while i < list.len() / 2 {
-        sum = (sum + wide(list[2 * i]) + 256 * wide(list[2 * i + 1])) % 65536;
-        i += 1;
+    let mut sum: u16 = 0;
+    for i in 0..list.len() / 2 {
+        sum = sum.wrapping_add(u16::from_le_bytes([list[2 * i], list[2 * i + 1]]));
     }
-    sum
+    usize::from(sum)
 }
 
 // The check of a block whose other bytes are these.
@@ -109,7 +92,7 @@ pub fn check_word(front: &[u8]) -> usize
 pub fn last_mark(last: bool) -> u8
     ensures { result ≡ last_mark last }
 {
-    if last { 1 } else { 0 }
+    u8::from(last)
 }
 
 // Whether a block may have so many steps.
@@ -117,68 +100,60 @@ fn is_count(count: u8, last: bool) -> bool
     ensures { result ≡ count_legal count last }
 {
     if last {
-        return (1 <= count) & (count <= 84);
+        (1..=84).contains(&count)
+    } else {
+        count == 84
     }
-    count == 84
 }
 
 // Whether the places after the first `count` steps are zero.
-fn is_unused_zero(block: &[u8], count: usize) -> bool
-    requires { (length block.now ≡ 512) × (count ≤ 255) }
+fn is_unused_zero(block: &[u8; 512], count: u8) -> bool
     ensures { result ≡ unused_zero block.now count }
 {
-    let mut i = 6 + 6 * count;
-    while i < 510 {
-        if block[i] != 0 {
-            return false;
-        }
-        i += 1;
-    }
-    true
+    let from = (6 + 6 * usize::from(count)).min(510);
+    block[from..510].iter().all(|b| *b == 0)
 }
 
 // The rules of a block apart from its number and its check.
-fn is_content(block: &[u8], last: bool) -> bool
-    requires { length block.now ≡ 512 }
+#[tactic(auto, unfolding(crate::specs::Block::content_legal))]
+fn is_content(block: &[u8; 512], last: bool) -> bool
     ensures { result ≡ content_legal block.now last }
 {
-    (block[3] == last_mark(last))
-        & (block[4] == 0)
-        & (block[5] == 0)
-        & is_count(block[2], last)
-        & is_unused_zero(block, wide(block[2]))
+    block[3] == last_mark(last)
+        && block[4] == 0
+        && block[5] == 0
+        && is_count(block[2], last)
+        && is_unused_zero(block, block[2])
 }
 
 // Whether bytes are block `number` of a file, the last of it or not.
+#[tactic(auto, unfolding(crate::specs::Block::block_legal))]
 pub fn is_block(block: &[u8], number: usize, last: bool) -> bool
     ensures { result ≡ block_legal block.now number last }
 {
-    if block.len() != 512 {
+    let Some(block) = block.as_array::<512>() else {
         return false;
-    }
-    let found = wide(block[0]) + 256 * wide(block[1]);
-    (found == number) & is_content(block, last) & (word_sum(block) == 1)
+    };
+    let found = usize::from(u16::from_le_bytes([block[0], block[1]]));
+    let numbered = found == number;
+    numbered && is_content(block, last) && (word_sum(block) == 1)
 }
 
-// The first block that breaks a rule, or the number of blocks.
+// The first block that breaks a rule, or the number of blocks: so says the definition, which `checked_table` cites.
 pub fn first_bad_block(file: &[u8]) -> usize
     ensures { result ≡ first_bad_block file.now }
 {
     let count = file.len() / 512;
-    let mut k = 0;
-    while k < count {
-        let at = 512 * k;
-        let end = at + 512;
-        if is_block(&file[at..end], k, k + 1 == count) {
-            k += 1;
-        } else {
+    for k in 0..count {
+        if !is_block(&file[512 * k..512 * k + 512], k, k + 1 == count) {
             return k;
         }
     }
-    k
+    count
 }
 
 // The number of steps of a file.
+#[tactic(auto, unfolding(crate::specs::File::step_count))]
 pub fn step_count(file: &[u8]) -> usize
     ensures { result ≡ step_count file.now }
 {
@@ -187,7 +162,7 @@ pub fn step_count(file: &[u8]) -> usize
         return 0;
     }
     let last = count - 1;
-    84 * last + wide(file[512 * last + 2])
+    84 * last + usize::from(file[512 * last + 2])
 }
 
 // The bytes ahead of step j that are no steps.
@@ -201,72 +176,56 @@ fn ahead(layout: Layout, j: usize) -> usize
 }
 
 // The step at a place, or the refusal.
-pub fn step_at(list: &[u8], layout: Layout, j: usize) -> StepRead
+#[tactic(auto, using(script_steps::proofs::Codec::read_short, script_steps::proofs::Codec::short_number))]
+pub fn step_at(list: &[u8], layout: Layout, j: usize) -> Result<Step, Fault>
     ensures value { result ≡ step_at layout list.now j }
     ensures result_value { step_read_number result ≡ bytes_table (take 6 (drop (step_place layout j) list.now)) }
 {
     let skip = ahead(layout, j);
-    if list.len() < skip {
-        return StepRead::Refused(Fault::Unallowed);
-    }
-    if (list.len() - skip) / 6 <= j {
-        return StepRead::Refused(Fault::Unallowed);
+    if list.len() < skip || (list.len() - skip) / 6 <= j {
+        return Err(Fault::Unallowed);
     }
     read_at(list, skip + 6 * j)
 }
 
 // So many steps checked: why the first that does not pass is refused, or that all of them pass.
-pub fn check_steps(list: &[u8], layout: Layout, count: usize) -> Checked
+#[tactic(auto, using(crate::proofs::StepLaws::steps_more, crate::proofs::StepLaws::steps_stop, crate::proofs::StepLaws::steps_done))]
+pub fn check_steps(list: &[u8], layout: Layout, count: usize) -> Result<usize, Refusal>
     ensures value { result ≡ steps_checked layout list.now 0 count }
     ensures result_value { of_checked result ≡ steps_table layout list.now count (returned 0 count) }
 {
-    let mut j = 0;
-    while j < count {
-        if let StepRead::Refused(why) = step_at(list, layout, j) {
-            return Checked::Refused(Refusal::Step(j, why));
-        }
-        j += 1;
+    for j in 0..count {
+        step_at(list, layout, j).map_err(|why| Refusal::Step(j, why))?;
     }
-    Checked::Accepted(j)
+    Ok(count)
 }
 
 // A file checked: 8, then 6 over all blocks, then 7 or 11; else its number of steps.
-pub fn check_file(file: &[u8]) -> Checked
+#[tactic(auto, unfolding(crate::specs::File::checked))]
+pub fn check_file(file: &[u8]) -> Result<usize, Refusal>
     ensures value { result ≡ checked file.now }
     ensures result_value { of_checked result ≡ checked_table file.now }
 {
     if !is_whole(file.len(), 512, 12) {
-        return Checked::Refused(Refusal::Length);
+        return Err(Refusal::Length);
     }
     let k = first_bad_block(file);
     if k < file.len() / 512 {
-        return Checked::Refused(Refusal::Block(k));
+        return Err(Refusal::Block(k));
     }
     check_steps(file, Layout::Blocks, step_count(file))
 }
 
 // The reader's work: what it answers at step `at`. A refusal goes straight out.
-pub fn next_at(file: &[u8], at: usize) -> Next
+#[tactic(auto, unfolding(crate::specs::Reader::next_of))]
+pub fn next_at(file: &[u8], at: usize) -> Result<Option<Step>, Refusal>
     ensures { (result ≡ next_of file.now at) × (of_next result ≡ next_table file.now at) }
 {
     if step_count(file) <= at {
-        return Next::End;
+        return Ok(None);
     }
-    let read = step_at(file, Layout::Blocks, at);
-    let StepRead::Good(step) = read else {
-        return as_next(read, at);
-    };
-    Next::Found(step)
-}
-
-// What was read at step `at`, as the reader's answer.
-fn as_next(read: StepRead, at: usize) -> Next
-    ensures { result ≡ as_next read at }
-{
-    match read {
-        StepRead::Good(step) => Next::Found(step),
-        StepRead::Refused(why) => Next::Refused(Refusal::Step(at, why)),
-    }
+    let step = step_at(file, Layout::Blocks, at).map_err(|why| Refusal::Step(at, why))?;
+    Ok(Some(step))
 }
 
 impl Position {
@@ -282,17 +241,14 @@ impl Position {
         ensures value { result ≡ turned file.now self.at }
         ensures next_value { of_next result.next ≡ next_table file.now self.at }
     {
-        let at = self.at;
-        let next = next_at(file, at);
-        let Next::Found(_) = next else {
-            return Turn {
-                next,
-                place: Position { at },
-            };
+        let next = next_at(file, self.at);
+        let Ok(Some(_)) = next else {
+            return Turn { next, place: self };
         };
+        let at = self.at + 1;
         Turn {
             next,
-            place: Position { at: at + 1 },
+            place: Position { at },
         }
     }
 }

@@ -7,34 +7,33 @@ use mathlib.Core.Path.{◌≡◌, refl, sym, ap, ◌∙◌}
 use mathlib.Core.List.{List, [], ◌∷◌, ◌++◌, append_assoc}
 use lib.Dec.{eqb}
 use borrow.Author.Tests.{eqb-true}
-use Rattle.lists.proofs.Tests.{and_both}
-use lib.ListN.{length, get_or, length-append}
+use Rattle.std.proofs.lemmas.Bool.{and_parts}
+use lib.ListN.{length, length-append}
 use Rattle.script_commands.specs.Command.{bytes_of, command_of, bytes_of_all}
 use Rattle.script_commands.specs.declared.Command.{Command}
 use Rattle.script_commands.specs.declared.Command.TheVariants.{Out, In, Merge, OutAcc}
-use Rattle.script_commands.specs.declared.CommandRead.{CommandRead}
-use Rattle.script_commands.specs.declared.CommandRead.TheVariants.{Known, Unknown}
+use Rattle.std.specs.Prelude.{Option, Some, None}
 
 -- four bytes of a list read as a command
-abbrev pub read_four : List ℕ → CommandRead
-read_four [] = Unknown
-read_four (a ∷ []) = Unknown
-read_four (a ∷ b ∷ []) = Unknown
-read_four (a ∷ b ∷ c ∷ []) = Unknown
+abbrev pub read_four : List ℕ → Option Command
+read_four [] = None
+read_four (a ∷ []) = None
+read_four (a ∷ b ∷ []) = None
+read_four (a ∷ b ∷ c ∷ []) = None
 read_four (a ∷ b ∷ c ∷ d ∷ l) = command_of a b c d
 
 pub port-whole : (p : ℕ) → p % 256 + p / 256 * 256 ≡ p
 port-whole p = omega arith
 
-pub bytes_read : (c : Command) → read_four (bytes_of c) ≡ Known c
+pub bytes_read : (c : Command) → read_four (bytes_of c) ≡ Some c
 unfolding command_of
-bytes_read (Out p v) = ap (λ (x : ℕ). Known (Out x v)) (port-whole p)
-bytes_read (In p) = ap (λ (x : ℕ). Known (In x)) (port-whole p)
+bytes_read (Out p v) = ap (λ (x : ℕ). Some (Out x v)) (port-whole p)
+bytes_read (In p) = ap (λ (x : ℕ). Some (In x)) (port-whole p)
 bytes_read (Merge k s) = refl
-bytes_read (OutAcc p) = ap (λ (x : ℕ). Known (OutAcc x)) (port-whole p)
+bytes_read (OutAcc p) = ap (λ (x : ℕ). Some (OutAcc x)) (port-whole p)
 
 -- the other way: four bytes that are read as a command are that command's
-pub read-bytes : (a b c d : ℕ) (x : Command) → b < 256 → c < 256 → command_of a b c d ≡ Known x → bytes_of x ≡ a ∷ b ∷ c ∷ d ∷ []
+pub read-bytes : (a b c d : ℕ) (x : Command) → b < 256 → c < 256 → command_of a b c d ≡ Some x → bytes_of x ≡ a ∷ b ∷ c ∷ d ∷ []
 unfolding command_of
 read-bytes a b c d x hb hc is = go (eqb a 1) refl (eqb a 2 && eqb d 0) refl (eqb a 3 && eqb d 0) refl (eqb a 4 && eqb d 0) refl is
   where
@@ -45,13 +44,13 @@ read-bytes a b c d x hb hc is = go (eqb a 1) refl (eqb a 2 && eqb d 0) refl (eqb
     high = omega arith
 
     zero_last : (k : ℕ) → (eqb a k && eqb d 0) ≡ true → (a ≡ k) × (d ≡ 0)
-    zero_last k e = let (p, q) = and_both (eqb a k) (eqb d 0) e in (eqb-true a k p, eqb-true d 0 q)
+    zero_last k e = let (p, q) = and_parts (eqb a k) (eqb d 0) e in (eqb-true a k p, eqb-true d 0 q)
 
-    same : (y : Command) → Known y ≡ Known x → y ≡ x
+    same : (y : Command) → Some y ≡ Some x → y ≡ x
     same y e = cc
 
     go : (o : Bool) → eqb a 1 ≡ o → (i : Bool) → (eqb a 2 && eqb d 0) ≡ i → (m : Bool) → (eqb a 3 && eqb d 0) ≡ m → (u : Bool) → (eqb a 4 && eqb d 0) ≡ u
-        → cond o (Known (Out (b + c * 256) d)) (cond i (Known (In (b + c * 256))) (cond m (Known (Merge b c)) (cond u (Known (OutAcc (b + c * 256))) Unknown))) ≡ Known x
+        → cond o (Some (Out (b + c * 256) d)) (cond i (Some (In (b + c * 256))) (cond m (Some (Merge b c)) (cond u (Some (OutAcc (b + c * 256))) None))) ≡ Some x
         → bytes_of x ≡ a ∷ b ∷ c ∷ d ∷ []
     go true eo i ei m em u eu k = rw (← same _ k, port, high, eqb-true a 1 eo)
     go false eo true ei m em u eu k = let (p, q) = zero_last 2 ei in rw (← same _ k, port, high, p, q)
@@ -77,10 +76,3 @@ length-bytes (c ∷ cs) =
     let h : length (bytes_of_all cs) ≡ 4 * length cs = length-bytes cs in
     let f : length (bytes_of c) ≡ 4 = four c in
     length-append (bytes_of c) (bytes_of_all cs) ∙ omega arith
-
--- the four bytes, one by one
-pub bytes_by_four : (c : Command) → get_or (bytes_of c) 0 0 ∷ get_or (bytes_of c) 1 0 ∷ get_or (bytes_of c) 2 0 ∷ get_or (bytes_of c) 3 0 ∷ [] ≡ bytes_of c
-bytes_by_four (Out p v) = refl
-bytes_by_four (In p) = refl
-bytes_by_four (Merge k s) = refl
-bytes_by_four (OutAcc p) = refl

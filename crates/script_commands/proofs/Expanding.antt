@@ -6,60 +6,41 @@ use mathlib.Core.Path.{◌≡◌, refl, sym, ap, ◌∙◌}
 use mathlib.Core.List.{List, [], ◌∷◌, ◌++◌, append_assoc, append-nil}
 use lib.ListN.{length, length-append}
 use Rattle.script_steps.specs.declared.Step.{Step}
-use Rattle.script_steps.specs.declared.Step.TheVariants.{Set, Field, Colour}
 use Rattle.script.specs.Reader.{next_of}
-use Rattle.script.specs.declared.Next.{Next}
-use Rattle.script.specs.declared.Next.TheVariants.{Found, Refused, End}
-use Rattle.script_commands.specs.Expansion.{ways, set_by, field_by, expanded, commands_of}
+use Rattle.script_commands.specs.Expansion.{expanded, commands_of}
 use Rattle.script_commands.specs.Translation.{handed, steps_to, commands_to, begins}
-use Rattle.script_commands.specs.declared.Ways.{Ways}
-use Rattle.script_commands.specs.declared.Ways.TheVariants.{Pair, Pairs, Direct, Turns, Nowhere}
-
-set_most : (w : Ways) (i v : ℕ) → length (set_by w i v) ≤ 8
-set_most (Pair x p) i v = omega arith
-set_most (Pairs x p y q) i v = omega arith
-set_most (Direct w r) i v = omega arith
-set_most (Turns p r) i v = omega arith
-set_most Nowhere i v = omega arith
-
-field_most : (w : Ways) (i k s : ℕ) → length (field_by w i k s) ≤ 8
-field_most (Pair x p) i k s = omega arith
-field_most (Pairs x p y q) i k s = omega arith
-field_most (Direct w r) i k s = omega arith
-field_most (Turns p r) i k s = omega arith
-field_most Nowhere i k s = omega arith
+use Rattle.script_commands.proofs.Knowing.{nothing_known, known_most}
+use Rattle.std.specs.Prelude.{false, Result, Option, Ok, Err, Some, None}
+use Rattle.script.specs.declared.Refusal.{Refusal}
 
 -- "So a step has at most 8 commands and 32 bytes."
 pub expanded_most : (s : Step) → length (expanded s) ≤ 8
-unfolding expanded
-expanded_most (Set g i v) = set_most (ways g) i v
-expanded_most (Field g i v m) = field_most (ways g) i _ v
-expanded_most (Colour e r g b) = omega arith
+expanded_most s = rw (← nothing_known s) (known_most false s)
 
 pub commands_append : (ss ts : List Step) → commands_of (ss ++ ts) ≡ commands_of ss ++ commands_of ts
 unfolding commands_of
 commands_append [] ts = refl
 commands_append (s ∷ ss) ts = ap (◌++◌ (expanded s)) (commands_append ss ts) ∙ sym (append_assoc (expanded s) _ _)
 
-commands_one : (s : Step) → commands_of (s ∷ []) ≡ expanded s
+pub commands_one : (s : Step) → commands_of (s ∷ []) ≡ expanded s
 unfolding commands_of
 commands_one s = append-nil (expanded s)
 
 -- the commands of one step more
-pub commands_next : (f : List ℕ) (n : ℕ) (s : Step) → next_of f n ≡ Found s → commands_to f (suc n) ≡ commands_to f n ++ expanded s
+pub commands_next : (f : List ℕ) (n : ℕ) (s : Step) → next_of f n ≡ Ok (Some s) → commands_to f (suc n) ≡ commands_to f n ++ expanded s
 unfolding steps_to
 commands_next f n s is =
-    ap (λ (r : Next). commands_of (steps_to f n ++ handed r)) is ∙ commands_append (steps_to f n) (s ∷ [])
+    ap (λ (r : Result (Option Step) Refusal). commands_of (steps_to f n ++ handed r)) is ∙ commands_append (steps_to f n) (s ∷ [])
     ∙ ap (◌++◌ (commands_to f n)) (commands_one s)
 
-commands_none : commands_of [] ≡ []
+pub commands_none : commands_of [] ≡ []
 unfolding commands_of
 commands_none = refl
 
-one_most : (r : Next) → length (commands_of (handed r)) ≤ 8
-one_most (Found s) = rw (commands_one s) (expanded_most s)
-one_most (Refused r) = rw commands_none (omega arith)
-one_most End = rw commands_none (omega arith)
+one_most : (r : Result (Option Step) Refusal) → length (commands_of (handed r)) ≤ 8
+one_most (Ok (Some s)) = rw (commands_one s) (expanded_most s)
+one_most (Err r) = rw commands_none (omega arith)
+one_most (Ok None) = rw commands_none (omega arith)
 
 pub begins_most : (f : List ℕ) (n : ℕ) → begins f n ≤ 8 * n
 unfolding steps_to

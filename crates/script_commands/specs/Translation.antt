@@ -1,6 +1,6 @@
 -- A whole script file translated into its commands: document 01, "Commands" and "Numbers returned", 8, 6, 7 or, by document 02,
 -- P2, 11, and 9 in that order. Where a step's commands begin is how many commands the steps before it have.
-use Rattle.std.specs.Prelude.{ℕ, zero, suc, ◌*◌, cond, List, [], ◌∷◌, ◌++◌, ltb, length}
+use Rattle.std.specs.Prelude.{ℕ, zero, suc, ◌*◌, cond, List, [], ◌∷◌, ◌++◌, ltb, length, Result, Option, Ok, Err, Some, None}
 use Rattle.lists.specs.Put.{put}
 use Rattle.script_steps.specs.declared.Step.{Step}
 use Rattle.script.specs.File.{step_count, checked}
@@ -8,21 +8,16 @@ use Rattle.script.specs.Reader.{next_of}
 use Rattle.lists.specs.Numbers.{Returned, returned}
 use Rattle.script.specs.Numbers.{of_refusal, checks_table}
 use Rattle.script.specs.declared.Refusal.TheVariants.{Room}
-use Rattle.script.specs.declared.Checked.{Checked}
-use Rattle.script.specs.declared.Checked.TheVariants.{Accepted, Refused as NotAccepted}
-use Rattle.script.specs.declared.Next.{Next}
-use Rattle.script.specs.declared.Next.TheVariants.{Found, Refused as NoStep, End}
 use Rattle.script_commands.specs.Command.{bytes_of_all}
 use Rattle.script_commands.specs.Expansion.{commands_of}
 use Rattle.script_commands.specs.declared.Command.{Command}
-use Rattle.script_commands.specs.declared.Translated.{Translated}
-use Rattle.script_commands.specs.declared.Translated.TheVariants.{Commands, Refused}
+use Rattle.script.specs.declared.Refusal.{Refusal}
 
 -- what the reader hands out, as a list
-abbrev pub handed : Next → List Step
-handed (Found s) = s ∷ []
-handed (NoStep r) = []
-handed End = []
+abbrev pub handed : Result (Option Step) Refusal → List Step
+handed (Ok (Some s)) = s ∷ []
+handed (Err r) = []
+handed (Ok None) = []
 
 -- the first n steps of a file, as the reader hands them out
 unfoldable pub steps_to : List ℕ → ℕ → List Step
@@ -38,33 +33,33 @@ begins f n = length (commands_to f n)
 
 -- an accepted file, with the list of the commands of its first so many steps, wants 32 bytes a step, even where its commands
 -- would fit in fewer
-abbrev pub if_room : Checked → (ℕ → List Command) → ℕ → Translated
-if_room (Accepted m) list room = cond (ltb room (32 * m)) (Refused Room) (Commands (length (list m)))
-if_room (NotAccepted r) list room = Refused r
+abbrev pub if_room : Result ℕ Refusal → (ℕ → List Command) → ℕ → Result ℕ Refusal
+if_room (Ok m) list room = cond (ltb room (32 * m)) (Err Room) (Ok (length (list m)))
+if_room (Err r) list room = Err r
 
-unfoldable pub translated : List ℕ → ℕ → Translated
+unfoldable pub translated : List ℕ → ℕ → Result ℕ Refusal
 translated f room = if_room (checked f) (commands_to f) room
 
 -- what the lent output then holds: a refusal changes no byte, and bytes after the commands keep their value
-abbrev pub put_by : Translated → List Command → List ℕ → List ℕ
-put_by (Commands k) cs out = put out 0 (bytes_of_all cs)
-put_by (Refused r) cs out = out
+abbrev pub put_by : Result ℕ Refusal → List Command → List ℕ → List ℕ
+put_by (Ok k) cs out = put out 0 (bytes_of_all cs)
+put_by (Err r) cs out = out
 
-abbrev pub left_by : Translated → List ℕ → List ℕ → List ℕ
+abbrev pub left_by : Result ℕ Refusal → List ℕ → List ℕ → List ℕ
 left_by t f out = put_by t (commands_to f (step_count f)) out
 
 -- where the commands of step n of a file begin: how many commands the steps before it have. Past the last step there are no more
-abbrev pub if_accepted : Checked → ℕ → Translated
-if_accepted (Accepted m) k = Commands k
-if_accepted (NotAccepted r) k = Refused r
+abbrev pub if_accepted : Result ℕ Refusal → ℕ → Result ℕ Refusal
+if_accepted (Ok m) k = Ok k
+if_accepted (Err r) k = Err r
 
-unfoldable pub begun : List ℕ → ℕ → Translated
+unfoldable pub begun : List ℕ → ℕ → Result ℕ Refusal
 begun f n = if_accepted (checked f) (begins f n)
 
 -- document 01's number and value for each answer
-abbrev pub of_translated : Translated → Returned
-of_translated (Commands k) = returned 0 k
-of_translated (Refused r) = of_refusal r
+abbrev pub of_translated : Result ℕ Refusal → Returned
+of_translated (Ok k) = returned 0 k
+of_translated (Err r) = of_refusal r
 
 -- the table of numbers for a translation, in its order: 8, 6, 7 or 11, 9
 abbrev pub room_table : List ℕ → (ℕ → List Command) → ℕ → Returned

@@ -2,16 +2,20 @@
 // number 9 for commands; document 02, P1, for group 8. Running them is crate `chip_run`'s.
 #![tactic(auto)]
 
-ghost use Rattle.std.specs.Prelude.{◌≡◌, cond, [], ◌∷◌, ℕ, ◌+◌, ◌*◌, ◌≤◌, ◌%◌, ◌/◌, ltb, length};
-ghost use Rattle.script.specs.File.{checked};
+ghost use Rattle.std.specs.Prelude.{◌≡◌, cond, [], ◌∷◌, ◌++◌, List, ℕ, ◌+◌, ◌*◌, ◌≤◌, ◌%◌, ◌/◌, ltb, length};
+ghost use Rattle.script.specs.File.{checked, step_count};
+ghost use Rattle.script_steps.specs.declared.Step.{Step};
 ghost use Rattle.lists.specs.Put.{Added};
 ghost use Rattle.script_commands.specs.Command.{bytes_of, bytes_of_all, command_of};
-ghost use Rattle.script_commands.specs.Expansion.{ways as ways_of, turned, set_by, field_by, expanded};
-ghost use Rattle.script_commands.specs.Known.{index_write, known_set, known_change, set_known, field_known, expanded_known};
-ghost use Rattle.script_commands.specs.Translation.{commands_to, begins, translated, left_by, begun, of_translated, translated_table, begun_table};
-ghost use Rattle.script_commands.specs.Working.{without_step, StepsPut};
+ghost use Rattle.script_commands.specs.Expansion.{ways as ways_of, turned, commands_of};
+ghost use Rattle.script_commands.specs.Known.{index_write, expanded_known};
+ghost use Rattle.script_commands.specs.Translation.{steps_to, if_room, put_by, if_accepted, room_table, translated, left_by, begun, of_translated, translated_table, begun_table};
+ghost use Rattle.lists.specs.Numbers.{returned};
+ghost use Rattle.script.specs.Numbers.{checks_table};
+ghost use Rattle.script_commands.specs.Working.{at_port, indexed, by_way, Wrote, without_step, StepsPut};
+ghost use Rattle.script_commands.specs.declared.Command.{Command};
 
-use script::{Checked, Next, Refusal, check_file};
+use script::{Refusal, check_file};
 use script_reader::nth;
 use script_steps::Step;
 
@@ -28,13 +32,6 @@ pub enum Command {
     OutAcc(u16),
 }
 
-// What four bytes are.
-#[derive(Clone, Copy)]
-pub enum CommandRead {
-    Known(Command),
-    Unknown,
-}
-
 // How a group's registers are reached.
 #[derive(Clone, Copy)]
 pub enum Ways {
@@ -46,48 +43,53 @@ pub enum Ways {
     Direct(u16, u16),
     // A port that takes index and data by turns and reads the index, and a port that reads the data.
     Turns(u16, u16),
-    // There is no such group.
+    // There is no such group. It stands among the ways, and is no Option's None: `ways`, `set_by` and `field_by` of
+    // specs/Expansion have a line for it, and what they say may not change.
     Nowhere,
 }
 
-// What the translation of a file answers: how many commands there are, or why it is refused.
+// What a group's data port receives: a byte, or its own byte AND `keep`, OR `set`.
 #[derive(Clone, Copy)]
-pub enum Translated {
-    Commands(usize),
-    Refused(Refusal),
+enum Data {
+    Byte(u8),
+    Merged(u8, u8),
 }
 
-// Four bytes read as a command.
-pub fn command_of(a: u8, b: u8, c: u8, d: u8) -> CommandRead
+impl Data {
+    // How many commands that is.
+    fn count(self) -> usize
+        ensures count { (w r : ℕ) → result ≡ length (at_port w r self) }
+        ensures upper_bound { result ≤ 3 }
+    {
+        match self {
+            Data::Byte(_) => 1,
+            Data::Merged(..) => 3,
+        }
+    }
+}
+
+// Four bytes read as a command; none of another form. This and `to_bytes` are no TryFrom and From: these two public functions
+// stand, and an impl beside them would say the same twice.
+#[tactic(auto, using(std::proofs::lemmas::Bool::Decides::nat_tests), unfolding(crate::specs::Command::command_of))]
+pub fn command_of(a: u8, b: u8, c: u8, d: u8) -> Option<Command>
     ensures { result ≡ command_of a b c d }
 {
-    let port = b as u16 + c as u16 * 256;
-    if a == 1 {
-        return CommandRead::Known(Command::Out(port, d));
+    let port = u16::from_le_bytes([b, c]);
+    match (a, d) {
+        (1, _) => Some(Command::Out(port, d)),
+        (2, 0) => Some(Command::In(port)),
+        (3, 0) => Some(Command::Merge(b, c)),
+        (4, 0) => Some(Command::OutAcc(port)),
+        _ => None,
     }
-    if (a == 2) & (d == 0) {
-        return CommandRead::Known(Command::In(port));
-    }
-    if (a == 3) & (d == 0) {
-        return CommandRead::Known(Command::Merge(b, c));
-    }
-    if (a == 4) & (d == 0) {
-        return CommandRead::Known(Command::OutAcc(port));
-    }
-    CommandRead::Unknown
 }
 
-// The low and the high byte of a port.
-fn low(port: u16) -> u8
-    ensures { result ≡ port % 256 }
+// A command of this kind as four bytes, with its port low byte first.
+fn with_port(kind: u8, port: u16, last: u8) -> [u8; 4]
+    ensures { result ≡ kind ∷ port % 256 ∷ port / 256 ∷ last ∷ [] }
 {
-    (port % 256) as u8
-}
-
-fn high(port: u16) -> u8
-    ensures { result ≡ port / 256 }
-{
-    (port / 256) as u8
+    let [low, high] = port.to_le_bytes();
+    [kind, low, high, last]
 }
 
 // A command as four bytes.
@@ -95,14 +97,15 @@ pub fn to_bytes(c: Command) -> [u8; 4]
     ensures { result ≡ bytes_of c }
 {
     match c {
-        Command::Out(port, v) => [1, low(port), high(port), v],
-        Command::In(port) => [2, low(port), high(port), 0],
+        Command::Out(port, v) => with_port(1, port, v),
+        Command::In(port) => with_port(2, port, 0),
         Command::Merge(keep, set) => [3, keep, set, 0],
-        Command::OutAcc(port) => [4, low(port), high(port), 0],
+        Command::OutAcc(port) => with_port(4, port, 0),
     }
 }
 
-// The ports of a group.
+// The ports of a group, by its number: a step names its group so.
+#[tactic(auto, using(std::proofs::lemmas::Bool::Decides::nat_tests), unfolding(crate::specs::Expansion::ways))]
 pub fn ports_of(group: u8) -> Ways
     ensures { result ≡ ways_of group }
 {
@@ -120,304 +123,299 @@ pub fn ports_of(group: u8) -> Ways
     }
 }
 
-// One command into an output; where the next one goes.
-fn put_command(out: &mut [u8], at: usize, c: Command) -> usize
-    requires { at + 4 ≤ length out.old }
-    ensures { Added out.old at (bytes_of c) out.new result }
-{
-    let b = to_bytes(c);
-    out[at] = b[0];
-    out[at + 1] = b[1];
-    out[at + 2] = b[2];
-    out[at + 3] = b[3];
-    at + 4
-}
-
-// A byte to each of two ports.
-fn put_outs(out: &mut [u8], at: usize, x: u16, i: u8, p: u16, v: u8) -> usize
-    requires { at + 8 ≤ length out.old }
-    ensures { Added out.old at (bytes_of_all (Command.Out x i ∷ Command.Out p v ∷ [])) out.new result }
-{
-    let next = put_command(out, at, Command::Out(x, i));
-    put_command(out, next, Command::Out(p, v))
-}
-
-// A read, a merge and a write back.
-fn put_change(out: &mut [u8], at: usize, r: u16, w: u16, keep: u8, set: u8) -> usize
-    requires { at + 12 ≤ length out.old }
-    ensures { Added out.old at (bytes_of_all (Command.In r ∷ Command.Merge keep set ∷ Command.OutAcc w ∷ [])) out.new result }
-{
-    let second = put_command(out, at, Command::In(r));
-    let third = put_command(out, second, Command::Merge(keep, set));
-    put_command(out, third, Command::OutAcc(w))
-}
-
-// An index, unless it is known to stand.
-fn put_index(out: &mut [u8], at: usize, known: bool, x: u16, i: u8) -> usize
-    requires { at + 4 ≤ length out.old }
-    ensures added { Added out.old at (bytes_of_all (index_write known x i)) out.new result }
-    ensures upper_bound { result ≤ at + 4 }
-{
-    if known {
-        return at;
-    }
-    put_command(out, at, Command::Out(x, i))
-}
-
-// An index, and then a byte.
-fn put_indexed(out: &mut [u8], at: usize, known: bool, x: u16, i: u8, p: u16, v: u8) -> usize
-    requires { at + 8 ≤ length out.old }
-    ensures added { Added out.old at (bytes_of_all (known_set known x p i v)) out.new result }
-    ensures upper_bound { result ≤ at + 8 }
-{
-    let next = put_index(out, at, known, x, i);
-    put_command(out, next, Command::Out(p, v))
-}
-
-// An index, and then a read, a merge and a write back.
-fn put_indexed_change(
-    out: &mut [u8],
+// Where commands are written: an output, and the place of the next one.
+#[derive(Drop)]
+struct Output<'a> {
+    bytes: &'a mut [u8],
     at: usize,
-    known: bool,
-    x: u16,
-    i: u8,
-    p: u16,
-    keep: u8,
-    set: u8,
-) -> usize
-    requires { at + 16 ≤ length out.old }
-    ensures added { Added out.old at (bytes_of_all (known_change known x p i keep set)) out.new result }
-    ensures upper_bound { result ≤ at + 16 }
-{
-    let next = put_index(out, at, known, x, i);
-    put_change(out, next, p, p, keep, set)
 }
 
-// The turn returned to index, and an index written with bit 5 as it was.
-fn put_turned(out: &mut [u8], at: usize, p: u16, i: u8) -> usize
-    requires { at + 20 ≤ length out.old }
-    ensures { Added out.old at (bytes_of_all (turned p i)) out.new result }
-{
-    let second = put_command(out, at, Command::In(0x3BA));
-    let third = put_command(out, second, Command::In(0x3DA));
-    put_change(out, third, p, p, 0x20, i)
-}
+impl<'a> Output<'a> {
+    // One command.
+    fn put(&mut self, c: Command)
+        requires { self.old.at + 4 ≤ length self.old.bytes.now }
+        ensures { Wrote self.old (c ∷ []) self.new }
+    {
+        self.bytes[self.at..self.at + 4].copy_from_slice(&to_bytes(c));
+        self.at += 4;
+    }
 
-// The commands of a SET.
-fn put_set(out: &mut [u8], at: usize, known: bool, w: Ways, i: u8, v: u8) -> usize
-    requires { at + 32 ≤ length out.old }
-    ensures { Added out.old at (bytes_of_all (set_known known w i v)) out.new result }
-{
-    match w {
-        Ways::Pair(x, p) => put_indexed(out, at, known, x, i, p, v),
-        Ways::Pairs(x, p, y, q) => {
-            let next = put_indexed(out, at, known, x, i, p, v);
-            put_indexed(out, next, known, y, i, q, v)
+    // A byte to a port, or what port r holds read, merged and written to port w.
+    fn put_data(&mut self, w: u16, r: u16, sent: Data)
+        requires { self.old.at + 12 ≤ length self.old.bytes.now }
+        ensures wrote { Wrote self.old (at_port w r sent) self.new }
+        ensures upper_bound { self.new.at ≤ self.old.at + 12 }
+    {
+        match sent {
+            Data::Byte(v) => self.put(Command::Out(w, v)),
+            Data::Merged(keep, set) => {
+                self.put(Command::In(r));
+                self.put(Command::Merge(keep, set));
+                self.put(Command::OutAcc(w))
+            }
         }
-        Ways::Direct(p, _) => put_command(out, at, Command::Out(p, v)),
-        Ways::Turns(p, _) => {
-            let next = put_turned(out, at, p, i);
-            put_command(out, next, Command::Out(p, v))
+    }
+
+    // An index, unless it is known to stand.
+    fn put_index(&mut self, known: bool, x: u16, i: u8)
+        requires { self.old.at + 4 ≤ length self.old.bytes.now }
+        ensures wrote { Wrote self.old (index_write known x i) self.new }
+        ensures upper_bound { self.new.at ≤ self.old.at + 4 }
+    {
+        if !known {
+            self.put(Command::Out(x, i));
         }
-        Ways::Nowhere => at,
+    }
+
+    // An index, unless it is known to stand, and then the data.
+    fn put_indexed(&mut self, known: bool, x: u16, i: u8, p: u16, sent: Data)
+        requires { self.old.at + 16 ≤ length self.old.bytes.now }
+        ensures wrote { Wrote self.old (indexed known x p i sent) self.new }
+        ensures upper_bound { self.new.at ≤ self.old.at + 16 }
+    {
+        self.put_index(known, x, i);
+        self.put_data(p, p, sent);
+    }
+
+    // The turn returned to index, and an index written with bit 5 as it was.
+    fn put_turned(&mut self, p: u16, i: u8)
+        requires { self.old.at + 20 ≤ length self.old.bytes.now }
+        ensures wrote { Wrote self.old (turned p i) self.new }
+        ensures upper_bound { self.new.at ≤ self.old.at + 20 }
+    {
+        self.put(Command::In(0x3BA));
+        self.put(Command::In(0x3DA));
+        self.put_data(p, p, Data::Merged(0x20, i));
+    }
+
+    // The commands of a SET or a FIELD, by the way its group is reached.
+    fn put_by_way(&mut self, known: bool, w: Ways, i: u8, sent: Data)
+        requires { self.old.at + 32 ≤ length self.old.bytes.now }
+        ensures { Wrote self.old (by_way known w i sent) self.new }
+    {
+        match w {
+            Ways::Pair(x, p) => self.put_indexed(known, x, i, p, sent),
+            Ways::Pairs(x, p, y, q) => {
+                self.put_indexed(known, x, i, p, sent);
+                self.put_indexed(known, y, i, q, sent)
+            }
+            Ways::Direct(p, r) => self.put_data(p, r, sent),
+            Ways::Turns(p, r) => {
+                self.put_turned(p, i);
+                self.put_data(p, r, sent)
+            }
+            Ways::Nowhere => {}
+        }
+    }
+
+    // The commands of a step, without the writes of its index where that is known to stand.
+    fn put_step(&mut self, known: bool, s: Step)
+        requires { self.old.at + 32 ≤ length self.old.bytes.now }
+        ensures { Wrote self.old (expanded_known known s) self.new }
+    {
+        match s {
+            Step::Set {
+                group,
+                index,
+                value,
+            } => self.put_by_way(known, ports_of(group), index, Data::Byte(value)),
+            Step::Field {
+                group,
+                index,
+                value,
+                mask,
+            } => {
+                let sent = Data::Merged(0xFF - mask, value);
+                self.put_by_way(known, ports_of(group), index, sent)
+            }
+            Step::Colour {
+                entry,
+                red,
+                green,
+                blue,
+            } => {
+                self.put(Command::Out(0x3C8, entry));
+                self.put(Command::Out(0x3C9, red));
+                self.put(Command::Out(0x3C9, green));
+                self.put(Command::Out(0x3C9, blue))
+            }
+        }
     }
 }
 
-// The commands of a FIELD.
-fn put_field(out: &mut [u8], at: usize, known: bool, w: Ways, i: u8, keep: u8, set: u8) -> usize
-    requires { at + 32 ≤ length out.old }
-    ensures { Added out.old at (bytes_of_all (field_known known w i keep set)) out.new result }
-{
-    match w {
-        Ways::Pair(x, p) => put_indexed_change(out, at, known, x, i, p, keep, set),
-        Ways::Pairs(x, p, y, q) => {
-            let next = put_indexed_change(out, at, known, x, i, p, keep, set);
-            put_indexed_change(out, next, known, y, i, q, keep, set)
-        }
-        Ways::Direct(p, r) => put_change(out, at, r, p, keep, set),
-        Ways::Turns(p, r) => {
-            let next = put_turned(out, at, p, i);
-            put_change(out, next, r, p, keep, set)
-        }
-        Ways::Nowhere => at,
-    }
-}
-
-// The commands of a step, without the writes of its index where that is known to stand.
-fn put_step(out: &mut [u8], at: usize, known: bool, s: Step) -> usize
-    requires { at + 32 ≤ length out.old }
-    ensures { Added out.old at (bytes_of_all (expanded_known known s)) out.new result }
-{
-    match s {
-        Step::Set {
-            group,
-            index,
-            value,
-        } => {
-            let w = ports_of(group);
-            put_set(out, at, known, w, index, value)
-        }
-        Step::Field {
-            group,
-            index,
-            value,
-            mask,
-        } => {
-            let w = ports_of(group);
-            put_field(out, at, known, w, index, 0xFF - mask, value)
-        }
-        Step::Colour {
-            entry,
-            red,
-            green,
-            blue,
-        } => {
-            let next = put_outs(out, at, 0x3C8, entry, 0x3C9, red);
-            put_outs(out, next, 0x3C9, green, 0x3C9, blue)
-        }
-    }
-}
-
-// The same at a place of an output that has 32 bytes from there on; with less room nothing changes. Where the next one goes.
+// A step's commands, without the writes of its index where that is known to stand, at a place of an output that has 32 bytes from
+// there on; with less room nothing changes. Where the next one goes.
 pub fn add_step(out: &mut [u8], at: usize, known: bool, s: Step) -> usize
     ensures { Added out.old at (cond (ltb (length out.old) (at + 32)) [] (bytes_of_all (expanded_known known s))) out.new result }
 {
     let size = out.len();
-    if size < 32 {
+    if size < 32 || size - 32 < at {
         return at;
     }
-    if size - 32 < at {
-        return at;
+    let mut output = Output { bytes: out, at };
+    output.put_step(known, s);
+    output.at
+}
+
+// Which list of commands a script is translated into. Each step's commands stand in it with or without the writes of the step's
+// index, by what the list keeps in mind of the steps before.
+pub trait Listing: Drop {
+    // The list of these steps.
+    ghost list: { List Step → List Command };
+
+    // What is kept in mind behind these steps.
+    ghost Behind: { Self → List Step → Type 0 };
+
+    // Before the first step.
+    fn start() -> Self
+        ensures none { list [] ≡ [] }
+        ensures kept { Behind result [] };
+
+    // Whether the index of the next step is known to stand; then the step is kept in mind.
+    fn knows(&mut self, s: Step) -> bool
+        ensures more { (ss : List Step) → Behind self.old ss → list (ss ++ (s ∷ [])) ≡ list ss ++ expanded_known result s }
+        ensures kept { (ss : List Step) → Behind self.old ss → Behind self.new (ss ++ (s ∷ [])) };
+}
+
+// The plain list: no index is known.
+#[derive(Drop)]
+struct Plain;
+
+impl Listing for Plain {
+    ghost list = { commands_of };
+
+    ghost Behind = { λ _ _. Unit {0} };
+
+    fn start() -> Plain {
+        Plain
     }
-    put_step(out, at, known, s)
+
+    fn knows(&mut self, _s: Step) -> bool {
+        false
+    }
 }
 
 // What is answered where the reader hands out no step: its refusal, or at the end the commands so far.
-pub fn without_step(next: Next, k: usize) -> Translated
+#[tactic(auto, unfolding(crate::specs::Working::without_step))]
+pub fn without_step(next: Result<Option<Step>, Refusal>, k: usize) -> Result<usize, Refusal>
     ensures { result ≡ without_step next k }
 {
-    match next {
-        Next::Found(_) => Translated::Commands(k),
-        Next::Refused(why) => Translated::Refused(why),
-        Next::End => Translated::Commands(k),
-    }
+    next?;
+    Ok(k)
 }
 
-// The commands of the steps of an accepted file; how many there are. The steps come from document 01's reader that stands over
-// the caller's bytes, and its answer is taken apart by let .. else; a refusal goes straight out. So each step is judged again,
-// after `check_file`: the reader's contract is for every file, accepted or not, and a reader that took six bytes for a step
-// unjudged would answer by a second definition.
-fn put_steps(file: &[u8], m: usize, out: &mut [u8]) -> Translated
-    requires { (checked file.now ≡ Checked.Accepted m) × (32 * m ≤ length out.old) }
-    ensures { StepsPut (commands_to file.now m) out.old out.new result }
+// The listed commands of the steps of an accepted file; how many there are. The steps come from document 01's reader that stands
+// over the caller's bytes, and its answer is taken apart by let .. else; a refusal goes straight out by `?`. So each step is
+// judged again, after `check_file`: the reader's contract is for every file, accepted or not, and a reader that took six bytes
+// for a step unjudged would answer by a second definition.
+fn put_steps<L: Listing>(file: &[u8], m: usize, out: &mut [u8]) -> Result<usize, Refusal>
+    requires accepted { checked file.now ≡ Ok m }
+    requires room { 32 * m ≤ length out.old }
+    ensures { StepsPut (L.list (steps_to file.now m)) out.old out.new result }
 {
+    let mut list = L::start();
     let mut at = 0;
-    let mut j = 0;
-    while j < m {
-        let next = nth(file, j);
-        let Next::Found(step) = next else {
-            return without_step(next, at / 4);
+    for j in 0..m {
+        let Some(step) = nth(file, j)? else {
+            return Ok(at / 4);
         };
-        at = put_step(out, at, false, step);
-        j += 1;
+        let known = list.knows(step);
+        at = add_step(out, at, known, step);
     }
-    Translated::Commands(at / 4)
+    Ok(at / 4)
 }
 
-// A script file translated into commands: 8, then 6, then 7 or 11, then 9; else how many there are.
-pub fn translate(file: &[u8], out: &mut [u8]) -> Translated
+// A script file translated into a list of commands: 8, then 6, then 7 or 11, then 9; else how many there are.
+pub fn translate_into<L: Listing>(file: &[u8], out: &mut [u8]) -> Result<usize, Refusal>
+    ensures value { result ≡ if_room (checked file.now) (λ n. L.list (steps_to file.now n)) (length out.old) }
+    ensures out_after { out.new ≡ put_by result (L.list (steps_to file.now (step_count file.now))) out.old }
+    ensures number { of_translated result ≡ room_table file.now (λ n. L.list (steps_to file.now n)) (length out.old) }
+{
+    let m = check_file(file)?;
+    if out.len() / 32 < m {
+        return Err(Refusal::Room);
+    }
+    put_steps::<L>(file, m, out)
+}
+
+// A script file translated into commands, the plain list: 8, then 6, then 7 or 11, then 9; else how many there are.
+#[tactic(auto, unfolding(crate::specs::Translation::translated))]
+pub fn translate(file: &[u8], out: &mut [u8]) -> Result<usize, Refusal>
     ensures value { result ≡ translated file.now (length out.old) }
     ensures out_after { out.new ≡ left_by result file.now out.old }
     ensures result_value { of_translated result ≡ translated_table file.now (length out.old) }
 {
-    match check_file(file) {
-        Checked::Refused(r) => Translated::Refused(r),
-        Checked::Accepted(m) => {
-            if out.len() / 32 < m {
-                return Translated::Refused(Refusal::Room);
-            }
-            put_steps(file, m, out)
-        }
-    }
+    translate_into::<Plain>(file, out)
 }
 
-// How many commands a SET has.
-fn set_count(w: Ways) -> usize
-    ensures { (i v : ℕ) → result ≡ length (set_by w i v) }
+// How many commands a SET or a FIELD has, without an output to count them in.
+fn way_count(known: bool, w: Ways, sent: Data) -> usize
+    ensures { (i : ℕ) → result ≡ length (by_way known w i sent) }
 {
+    let index = usize::from(!known);
+    let count = sent.count();
     match w {
-        Ways::Pair(_, _) => 2,
-        Ways::Pairs(_, _, _, _) => 4,
-        Ways::Direct(_, _) => 1,
-        Ways::Turns(_, _) => 6,
-        Ways::Nowhere => 0,
-    }
-}
-
-// How many commands a FIELD has.
-fn field_count(w: Ways) -> usize
-    ensures { (i k v : ℕ) → result ≡ length (field_by w i k v) }
-{
-    match w {
-        Ways::Pair(_, _) => 4,
-        Ways::Pairs(_, _, _, _) => 8,
-        Ways::Direct(_, _) => 3,
-        Ways::Turns(_, _) => 8,
+        Ways::Pair(..) => index + count,
+        Ways::Pairs(..) => 2 * (index + count),
+        Ways::Direct(..) => count,
+        Ways::Turns(..) => 5 + count,
         Ways::Nowhere => 0,
     }
 }
 
 // How many commands a step has.
-fn command_count(s: Step) -> usize
-    ensures { result ≡ length (expanded s) }
+fn command_count(known: bool, s: Step) -> usize
+    ensures { result ≡ length (expanded_known known s) }
 {
     match s {
-        Step::Set {
-            group,
-            index: _,
-            value: _,
-        } => set_count(ports_of(group)),
+        Step::Set { group, value, .. } => way_count(known, ports_of(group), Data::Byte(value)),
         Step::Field {
             group,
-            index: _,
-            value: _,
-            mask: _,
-        } => field_count(ports_of(group)),
-        Step::Colour {
-            entry: _,
-            red: _,
-            green: _,
-            blue: _,
-        } => 4,
+            value,
+            mask,
+            ..
+        } => {
+            let sent = Data::Merged(0xFF - mask, value);
+            way_count(known, ports_of(group), sent)
+        }
+        Step::Colour { .. } => 4,
     }
 }
 
-// How many commands the first n steps of an accepted file have, read in the same way.
-fn count_steps(file: &[u8], n: usize) -> Translated
-    requires { (m : ℕ) × (checked file.now ≡ Checked.Accepted m) }
-    ensures { result ≡ Translated.Commands (begins file.now n) }
+// How many commands of a list the first n steps of an accepted file have, read in the same way. It has a loop of its own: the
+// contract of one loop that takes what to do with a step as a closure would be longer than both loops.
+fn count_steps<L: Listing>(file: &[u8], n: usize) -> Result<usize, Refusal>
+    requires { (m : ℕ) × (checked file.now ≡ Ok m) }
+    ensures { result ≡ Ok (length (L.list (steps_to file.now n))) }
 {
+    let mut list = L::start();
     let mut k = 0;
-    let mut j = 0;
-    while j < n {
-        let next = nth(file, j);
-        let Next::Found(step) = next else {
-            return without_step(next, k);
+    for j in 0..n {
+        let Some(step) = nth(file, j)? else {
+            return Ok(k);
         };
-        k += command_count(step);
-        j += 1;
+        let known = list.knows(step);
+        k += command_count(known, step);
     }
-    Translated::Commands(k)
+    Ok(k)
 }
 
-// Where the commands of step n of a file begin: 8, then 6, then 7 or 11; else how many commands the steps before it have. Past
-// the last step that is all there are.
-pub fn step_commands(file: &[u8], n: usize) -> Translated
+// Where the commands of step n of a file begin in a list: 8, then 6, then 7 or 11; else how many commands the steps before it
+// have. Past the last step that is all there are.
+pub fn step_commands_in<L: Listing>(file: &[u8], n: usize) -> Result<usize, Refusal>
+    ensures value { result ≡ if_accepted (checked file.now) (length (L.list (steps_to file.now n))) }
+    ensures number { of_translated result ≡ checks_table file.now (returned 0 (length (L.list (steps_to file.now n)))) }
+{
+    check_file(file)?;
+    count_steps::<L>(file, n)
+}
+
+// Where the commands of step n of a file begin in the plain list: 8, then 6, then 7 or 11; else how many commands the steps
+// before it have. Past the last step that is all there are.
+#[tactic(auto, unfolding(crate::specs::Translation::begun))]
+pub fn step_commands(file: &[u8], n: usize) -> Result<usize, Refusal>
     ensures value { result ≡ begun file.now n }
     ensures result_value { of_translated result ≡ begun_table file.now n }
 {
-    match check_file(file) {
-        Checked::Refused(r) => Translated::Refused(r),
-        Checked::Accepted(_) => count_steps(file, n),
-    }
+    step_commands_in::<Plain>(file, n)
 }

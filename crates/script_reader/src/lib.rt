@@ -8,7 +8,8 @@ ghost use Rattle.std.specs.Prelude.{◌≡◌};
 ghost use Rattle.script.specs.Reader.{next_of};
 ghost use Rattle.script.specs.Numbers.{of_next, next_table};
 
-use script::{Next, next_at};
+use script::{Refusal, next_at};
+use script_steps::Step;
 
 // The caller's bytes, and the number of the step that the reader stands at.
 #[derive(Clone, Copy)]
@@ -17,7 +18,7 @@ pub struct Reader<'a> {
     pub at: usize,
 }
 
-// A reader over these bytes, at this step.
+// A reader over these bytes, at this step. This and the next two are functions and no methods: so they are promised by name.
 pub fn over<'a>(src: &'a [u8], at: usize) -> Reader<'a>
     ensures { (result.src ≡ src.entry) × (result.at ≡ at) }
 {
@@ -25,7 +26,7 @@ pub fn over<'a>(src: &'a [u8], at: usize) -> Reader<'a>
 }
 
 // What it answers: the step, the refusal, or after the last step the end.
-pub fn ask<'a>(r: Reader<'a>) -> Next
+pub fn ask<'a>(r: Reader<'a>) -> Result<Option<Step>, Refusal>
     ensures { (result ≡ next_of r.entry.src.now r.entry.at) × (of_next result ≡ next_table r.entry.src.now r.entry.at) }
 {
     next_at(r.src, r.at)
@@ -39,7 +40,7 @@ pub fn moved<'a>(r: Reader<'a>, at: usize) -> Reader<'a>
 }
 
 // With plain parameters: what a reader over these bytes answers at step j.
-pub fn nth(file: &[u8], j: usize) -> Next
+pub fn nth(file: &[u8], j: usize) -> Result<Option<Step>, Refusal>
     ensures { (result ≡ next_of file.now j) × (of_next result ≡ next_table file.now j) }
 {
     ask(over(file, j))

@@ -3,18 +3,16 @@
 -- is counted, so the list is never longer than the plain one (`short_length`).
 use Prim.Native.Nat.{ℕ, suc, ◌+◌, ◌*◌, ◌≤◌}
 use native.Mathlib.Omega.{arith}
-use mathlib.Core.Bool.{Bool, true, false, cond, ◌&&◌}
+use mathlib.Core.Bool.{Bool, true, false, cond, and-false}
 use mathlib.Core.Path.{◌≡◌, refl, ap, ◌∙◌}
 use mathlib.Core.List.{List, [], ◌∷◌, ◌++◌}
 use lib.ListN.{length}
 use Rattle.script_steps.specs.declared.Step.{Step}
-use Rattle.script.specs.Reader.{next_of}
-use Rattle.script.specs.declared.Next.TheVariants.{Found}
 use Rattle.script_commands.specs.Expansion.{expanded, commands_of}
-use Rattle.script_commands.specs.Translation.{steps_to, commands_to, begins}
+use Rattle.script_commands.specs.Translation.{commands_to, begins}
 use Rattle.script_commands.specs.declared.Command.{Command}
 use Rattle.script_commands.specs.declared.Command.TheVariants.{Out, In, Merge, OutAcc}
-use Rattle.script_commands.proofs.Expanding.{commands_next, begins_most}
+use Rattle.script_commands.proofs.Expanding.{commands_append, commands_one, begins_most}
 use Rattle.script_short.specs.Short.{is_index_port, last_sent, left_out, shortened, omitted, short_to, short_begins}
 
 -- ---- what always stays
@@ -24,14 +22,10 @@ palette-stays before v = refl
 pub attribute_stays : (before : List Command) (v : ℕ) → left_out before (Out 0x3C0 v) ≡ false
 attribute_stays before v = refl
 
-and_false : (z : Bool) → (z && false) ≡ false
-and_false true = refl
-and_false false = refl
-
 -- a script's first command, whatever a state's indexes are
 pub first-stays : (f : List ℕ) (n : ℕ) (c : Command) (cs : List Command) → commands_to f n ≡ c ∷ cs → short_to f n ≡ c ∷ shortened (c ∷ []) cs
 unfolding shortened last_sent
-first-stays f n (Out p i) cs is = ap (shortened []) is ∙ rw (and_false (is_index_port p)) refl
+first-stays f n (Out p i) cs is = ap (shortened []) is ∙ rw (and-false (is_index_port p)) refl
 first-stays f n (In p) cs is = ap (shortened []) is
 first-stays f n (Merge k s) cs is = ap (shortened []) is
 first-stays f n (OutAcc p) cs is = ap (shortened []) is
@@ -74,17 +68,12 @@ short_shorter f n = omega (arith, short_length [] (commands_to f n))
 pub short_most : (f : List ℕ) (n : ℕ) → short_begins f n ≤ 8 * n
 short_most f n = omega (arith, short_shorter f n, begins_most f n)
 
--- ---- the list of a file, step by step
-pub short_start : (f : List ℕ) → short_to f 0 ≡ []
-unfolding steps_to commands_of shortened
-short_start f = refl
+-- ---- the list of steps, one by one
+pub short_start : shortened [] (commands_of []) ≡ []
+unfolding commands_of shortened
+short_start = refl
 
-pub past_start : (f : List ℕ) → past [] (commands_to f 0) ≡ []
-unfolding steps_to commands_of past
-past_start f = refl
-
-pub short_next : (f : List ℕ) (n : ℕ) (s : Step) → next_of f n ≡ Found s → short_to f (suc n) ≡ short_to f n ++ shortened (past [] (commands_to f n)) (expanded s)
-short_next f n s is = ap (shortened []) (commands_next f n s is) ∙ short_append [] (commands_to f n) (expanded s)
-
-pub past_next : (f : List ℕ) (n : ℕ) (s : Step) → next_of f n ≡ Found s → past [] (commands_to f (suc n)) ≡ past (past [] (commands_to f n)) (expanded s)
-past_next f n s is = ap (past []) (commands_next f n s is) ∙ past-append [] (commands_to f n) (expanded s)
+-- one step more
+pub short_next : (ss : List Step) (s : Step) → shortened [] (commands_of (ss ++ (s ∷ []))) ≡ shortened [] (commands_of ss) ++ shortened (past [] (commands_of ss)) (expanded s)
+short_next ss s =
+    ap (shortened []) (commands_append ss (s ∷ []) ∙ ap (◌++◌ (commands_of ss)) (commands_one s)) ∙ short_append [] (commands_of ss) (expanded s)

@@ -2,14 +2,14 @@
 -- without those writes to index ports that send what the last write to the same port sent. The rule is said of the plain list, so
 -- a write that is itself left out counts as sent. Numbers and the room of 32 bytes a step are those of the plain translation.
 -- Laws of the list are proofs/ShortLaws; that it does what the plain list does is crate `chip_short`'s.
-use Rattle.std.specs.Prelude.{ℕ, ◌+◌, Bool, false, cond, ◌&&◌, ◌||◌, List, [], ◌∷◌, eqb, length}
+use Rattle.std.specs.Prelude.{ℕ, ◌+◌, Bool, false, cond, ◌&&◌, ◌||◌, List, [], ◌∷◌, eqb, length, Result}
 use Rattle.script.specs.File.{step_count, checked}
 use Rattle.script.specs.Numbers.{checks_table}
 use Rattle.lists.specs.Numbers.{Returned, returned}
 use Rattle.script_commands.specs.Translation.{commands_to, if_room, if_accepted, put_by, room_table}
 use Rattle.script_commands.specs.declared.Command.{Command}
 use Rattle.script_commands.specs.declared.Command.TheVariants.{Out, In, Merge, OutAcc}
-use Rattle.script_commands.specs.declared.Translated.{Translated}
+use Rattle.script.specs.declared.Refusal.{Refusal}
 
 -- "a group's index port": those of CR, SR, GR, XR, FR and MR in document 01's table. "Writes to 3C8h and 3C0h always stay": they
 -- are not among these
@@ -51,17 +51,17 @@ abbrev pub short_begins : List ℕ → ℕ → ℕ
 short_begins f n = length (short_to f n)
 
 -- the answer, what the lent output then holds, and the table of numbers: 8, 6, 7 or 11, 9
-unfoldable pub short_translated : List ℕ → ℕ → Translated
+unfoldable pub short_translated : List ℕ → ℕ → Result ℕ Refusal
 short_translated f room = if_room (checked f) (short_to f) room
 
-abbrev pub short_left_by : Translated → List ℕ → List ℕ → List ℕ
+abbrev pub short_left_by : Result ℕ Refusal → List ℕ → List ℕ → List ℕ
 short_left_by t f out = put_by t (short_to f (step_count f)) out
 
 abbrev pub short_table : List ℕ → ℕ → Returned
 short_table f room = room_table f (short_to f) room
 
 -- where the short commands of step n of a file begin, and its table of numbers: 8, 6, 7 or 11
-unfoldable pub short_begun : List ℕ → ℕ → Translated
+unfoldable pub short_begun : List ℕ → ℕ → Result ℕ Refusal
 short_begun f n = if_accepted (checked f) (short_begins f n)
 
 abbrev pub short_begun_table : List ℕ → ℕ → Returned

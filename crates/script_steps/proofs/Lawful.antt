@@ -12,22 +12,24 @@ use lib.Dec.{ltb, eqb}
 use lib.Bits.{bit_and, and_step, and_shr, and_zero_l}
 use Rattle.lists.specs.Bits.{bit}
 use Rattle.lists.specs.Scan.{every}
-use Rattle.lists.proofs.Tests.{and_both, of_cond}
+use Rattle.lists.proofs.Tests.{of_cond}
+use Rattle.std.proofs.lemmas.Bool.{and_parts}
 use Rattle.chip_registers.specs.Attribute.{ar_lines}
 use Rattle.chip_registers.specs.CrtController.{cr_lines}
 use Rattle.chip_registers.specs.Extension.{xr_lines}
 use Rattle.chip_registers.specs.Groups.{group_at, is_indexed, row_of}
 use Rattle.chip_registers.specs.Indexes.{fits}
 use Rattle.chip_registers.proofs.IndexLaws.{misfit_unlisted}
-use Rattle.chip_registers.specs.declared.Row.TheVariants.{Listed, Unlisted}
 use Rattle.script_steps.specs.Step.{names, within, legal, unwritable, idle, judged, step_read_number, step_table}
 use Rattle.script_steps.specs.declared.Fault.TheVariants.{Unallowed, Idle}
 use Rattle.script_steps.specs.declared.Step.{Step}
 use Rattle.script_steps.specs.declared.Step.TheVariants.{Set, Field, Colour}
-use Rattle.script_steps.specs.declared.StepRead.{StepRead}
-use Rattle.script_steps.specs.declared.StepRead.TheVariants.{Good, Refused}
+use Rattle.std.specs.Prelude.{Result, Ok, Err, Some, None}
+use Rattle.chip_registers.specs.Rows.{listed}
+use Rattle.script_steps.specs.declared.Fault.{Fault}
 
--- ---- document 02, P5: "a step whose index doesn't fit its group is refused", and of the first six groups every index that fits is named
+-- ---- document 02, P5: "a step whose index doesn't fit its group is refused", and of the first six groups every index that
+-- fits is named
 pub names-indexed : (group index : ℕ) → group < 6 → names group index ≡ fits (group_at group) index
 unfolding names
 names-indexed g i h =
@@ -73,11 +75,11 @@ names-none g i h = rw (le-ltb _ _ h)
 module _ (g i : ℕ) (named : names g i ≡ true) where
   pub named_group : g < 9
   unfolding names
-  named_group = ltb-true _ _ (and_both (ltb g 9) _ (and_both (ltb g 9 && fits (group_at g) i) _ named).0).0
+  named_group = ltb-true _ _ (and_parts (ltb g 9) _ (and_parts (ltb g 9 && fits (group_at g) i) _ named).0).0
 
   pub named-fits : fits (group_at g) i ≡ true
   unfolding names
-  named-fits = (and_both (ltb g 9) _ (and_both (ltb g 9 && fits (group_at g) i) _ named).0).1
+  named-fits = (and_parts (ltb g 9) _ (and_parts (ltb g 9 && fits (group_at g) i) _ named).0).1
 
 -- ---- a FIELD with mask 00h is legal: it has no bit to say anything of
 pub field_no_mask : (group index : ℕ) → legal (Field group index 0 0) ≡ names group index
@@ -105,10 +107,10 @@ pub bits_within : (n v m : ℕ) → v < 2 ^ n → ((k : ℕ) → bit k v ≤ bit
 bits_within n v m h b = eq-eqb _ _ (same n v m h b)
 
 -- ---- document 02, P2: "whose register has no writable bit, unlisted ones included"
-pub unlisted_unwritable : (group index : ℕ) → row_of (group_at group) index ≡ Unlisted → unwritable group index ≡ true
+pub unlisted_unwritable : (group index : ℕ) → row_of (group_at group) index ≡ None → unwritable group index ≡ true
 unlisted_unwritable g i e = rw e
 
-pub listed-unwritable : (group index w r : ℕ) → row_of (group_at group) index ≡ Listed w r → unwritable group index ≡ eqb w 0
+pub listed-unwritable : (group index w r : ℕ) → row_of (group_at group) index ≡ Some (listed w r) → unwritable group index ≡ eqb w 0
 listed-unwritable g i w r e = rw e
 
 -- an index that does not fit is not listed, so that P5 refuses no step that passed: without it such a step would be refused
@@ -149,39 +151,35 @@ pub record Passes (s : Step) : Type 0 where
   pub useful : idle s ≡ false
 
 module _ (s : Step) where
-  pub unallowed_first : legal s ≡ false → judged s ≡ Refused Unallowed
+  pub unallowed_first : legal s ≡ false → judged s ≡ Err Unallowed
   unfolding judged
   unallowed_first l = rw l
 
-  pub idle-second : legal s ≡ true → idle s ≡ true → judged s ≡ Refused Idle
+  pub idle-second : legal s ≡ true → idle s ≡ true → judged s ≡ Err Idle
   unfolding judged
   idle-second l i = rw (l, i)
 
-  pub passes_good : Passes s → judged s ≡ Good s
+  pub passes_good : Passes s → judged s ≡ Ok s
   unfolding judged
   passes_good p = rw (p.lawful, p.useful)
 
   -- its number: 7, then 11, else 0
   pub judged-number : step_read_number (judged s) ≡ step_table s
   unfolding judged
-  judged-number = of_cond step_read_number (legal s) _ _ ∙ ap (λ (n : ℕ). cond (legal s) n 7) (of_cond step_read_number (idle s) (Refused Idle) (Good s))
-
-  -- what the contract of `judge` says, from the one equation
-  pub judge_answered : {r : StepRead} → r ≡ judged s → (r ≡ judged s) × (step_read_number r ≡ step_table s)
-  judge_answered e = (e, ap step_read_number e ∙ judged-number)
+  judged-number = of_cond step_read_number (legal s) _ _ ∙ ap (λ (n : ℕ). cond (legal s) n 7) (of_cond step_read_number (idle s) (Err Idle) (Ok s))
 
 -- .. and a step that is found good is the step, and passes
-pub good_passes : (q s : Step) → judged q ≡ Good s → (q ≡ s) × Passes s
+pub good_passes : (q s : Step) → judged q ≡ Ok s → (q ≡ s) × Passes s
 good_passes q s e = go (legal q) refl (idle q) refl
   where
-    none : {r : StepRead} → r ≡ judged q → r ≡ Good s
+    none : {r : Result Step Fault} → r ≡ judged q → r ≡ Ok s
     none h = h ∙ e
 
     go : (a : Bool) → legal q ≡ a → (b : Bool) → idle q ≡ b → (q ≡ s) × Passes s
-    go false l b i = absurd (let t : Refused Unallowed ≡ Good s = none (sym (unallowed_first q l)) in let z : ◌≡◌ {A = ℕ} 0 1 = cc in omega arith)
-    go true l true i = absurd (let t : Refused Idle ≡ Good s = none (sym (idle-second q l i)) in let z : ◌≡◌ {A = ℕ} 0 1 = cc in omega arith)
+    go false l b i = absurd (let t : Err Unallowed ≡ Ok s = none (sym (unallowed_first q l)) in let z : ◌≡◌ {A = ℕ} 0 1 = cc in omega arith)
+    go true l true i = absurd (let t : Err Idle ≡ Ok s = none (sym (idle-second q l i)) in let z : ◌≡◌ {A = ℕ} 0 1 = cc in omega arith)
     go true l false i =
-        let t : Good q ≡ Good s = none (sym (passes_good q (record { lawful = l; useful = i }))) in
+        let t : Ok q ≡ Ok s = none (sym (passes_good q (record { lawful = l; useful = i }))) in
         let t' : q ≡ s = cc in
         (t', record { lawful = ap legal (sym t') ∙ l; useful = ap idle (sym t') ∙ i })
 
@@ -191,10 +189,10 @@ module _ (g i : ℕ) (misfit : fits (group_at g) i ≡ false) where
   unfolding names
   misfit_unnamed = rw misfit (ap (λ (b : Bool). b && (ltb g 8 || ltb i 0x15)) (and-false (ltb g 9)))
 
-  pub misfit_set : (v : ℕ) → judged (Set g i v) ≡ Refused Unallowed
+  pub misfit_set : (v : ℕ) → judged (Set g i v) ≡ Err Unallowed
   unfolding legal
   misfit_set v = unallowed_first (Set g i v) misfit_unnamed
 
-  pub misfit_field : (v m : ℕ) → judged (Field g i v m) ≡ Refused Unallowed
+  pub misfit_field : (v m : ℕ) → judged (Field g i v m) ≡ Err Unallowed
   unfolding legal
   misfit_field v m = unallowed_first (Field g i v m) (rw misfit_unnamed)

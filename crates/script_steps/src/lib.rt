@@ -11,7 +11,8 @@ ghost use Rattle.script_steps.specs.Step.{names, legal, unwritable, idle, judged
 use chip_masks::writable;
 use chip_registers::{group_at, index_fits};
 
-// A step read is one of three kinds..
+// A step read is one of three kinds, and otherwise a refusal. Group and index stay numbers: `judged` and `bytes_of` speak of
+// steps of any group and index, the illegal ones too.
 #[derive(Clone, Copy)]
 pub enum Step {
     Set {
@@ -33,13 +34,6 @@ pub enum Step {
     },
 }
 
-// ..and otherwise a refusal.
-#[derive(Clone, Copy)]
-pub enum StepRead {
-    Good(Step),
-    Refused(Fault),
-}
-
 // Why a step is refused.
 #[derive(Clone, Copy)]
 pub enum Fault {
@@ -50,7 +44,7 @@ pub enum Fault {
 }
 
 impl Fault {
-    // The number returned.
+    // The number returned: by name, as `fault_number`, which the clause cites.
     pub fn number(self) -> u8
         ensures { result ≡ fault_number self }
     {
@@ -62,34 +56,27 @@ impl Fault {
 }
 
 // Whether there is this group, and a register of it can have this index.
+#[tactic(auto, unfolding(crate::specs::Step::names))]
 pub fn is_named(group: u8, index: u8) -> bool
     ensures { result ≡ names group index }
 {
-    (group < 9) & index_fits(group_at(group), index) & ((group < 8) | (index < 0x15))
+    group < 9 && index_fits(group_at(group), index) && (group < 8 || index < 0x15)
 }
 
 // Whether a step is legal.
+#[tactic(auto, unfolding(crate::specs::Step::legal))]
 fn is_legal(step: Step) -> bool
     ensures { result ≡ legal step }
 {
     match step {
-        Step::Set {
-            group,
-            index,
-            value: _,
-        } => is_named(group, index),
+        Step::Set { group, index, .. } => is_named(group, index),
         Step::Field {
             group,
             index,
             value,
             mask,
-        } => is_named(group, index) & (value & mask == value),
-        Step::Colour {
-            entry: _,
-            red: _,
-            green: _,
-            blue: _,
-        } => true,
+        } => is_named(group, index) && (value & mask == value),
+        Step::Colour { .. } => true,
     }
 }
 
@@ -101,107 +88,83 @@ fn is_unwritable(group: u8, index: u8) -> bool
 }
 
 // Whether a step can do nothing.
+#[tactic(auto, unfolding(crate::specs::Step::idle))]
 fn is_idle(step: Step) -> bool
     ensures { result ≡ idle step }
 {
     match step {
-        Step::Set {
-            group,
-            index,
-            value: _,
-        } => is_unwritable(group, index),
-        Step::Field {
-            group,
-            index,
-            value: _,
-            mask: _,
-        } => is_unwritable(group, index),
-        Step::Colour {
-            entry: _,
-            red: _,
-            green: _,
-            blue: _,
-        } => false,
+        Step::Set { group, index, .. } | Step::Field { group, index, .. } => is_unwritable(
+            group, index,
+        ),
+        Step::Colour { .. } => false,
     }
 }
 
 // What a step comes to: it passes, or why it is refused.
-pub fn judge(step: Step) -> StepRead
+#[tactic(auto, unfolding(crate::specs::Step::judged))]
+pub fn judge(step: Step) -> Result<Step, Fault>
     ensures value { result ≡ judged step }
     ensures result_value { step_read_number result ≡ step_table step }
 {
     if !is_legal(step) {
-        return StepRead::Refused(Fault::Unallowed);
+        return Err(Fault::Unallowed);
     }
     if is_idle(step) {
-        return StepRead::Refused(Fault::Idle);
+        return Err(Fault::Idle);
     }
-    StepRead::Good(step)
+    Ok(step)
 }
 
 // Six bytes by their kind, and the bytes that have to be 0.
-fn shape(a: u8, b: u8, c: u8, d: u8, e: u8, f: u8) -> StepRead
+#[tactic(auto, unfolding(crate::specs::Step::shaped))]
+fn shape(a: u8, b: u8, c: u8, d: u8, e: u8, f: u8) -> Result<Step, Fault>
     ensures { result ≡ shaped a b c d e f }
 {
-    if (a == 1) & (e == 0) & (f == 0) {
-        return StepRead::Good(Step::Set {
-            group: b,
-            index: c,
-            value: d,
-        });
+    match [a, b, c, d, e, f] {
+        [1, group, index, value, 0, 0] => Ok(Step::Set {
+            group,
+            index,
+            value,
+        }),
+        [2, group, index, value, mask, 0] => Ok(Step::Field {
+            group,
+            index,
+            value,
+            mask,
+        }),
+        [3, entry, red, green, blue, 0] => Ok(Step::Colour {
+            entry,
+            red,
+            green,
+            blue,
+        }),
+        _ => Err(Fault::Unallowed),
     }
-    if (a == 2) & (f == 0) {
-        return StepRead::Good(Step::Field {
-            group: b,
-            index: c,
-            value: d,
-            mask: e,
-        });
-    }
-    if (a == 3) & (f == 0) {
-        return StepRead::Good(Step::Colour {
-            entry: b,
-            red: c,
-            green: d,
-            blue: e,
-        });
-    }
-    StepRead::Refused(Fault::Unallowed)
 }
 
-// Six bytes read as a step, or refused.
-pub fn of_bytes(a: u8, b: u8, c: u8, d: u8, e: u8, f: u8) -> StepRead
+// Six bytes read as a step, or refused. They stay six parameters, as in the definition `shaped`.
+#[tactic(auto, unfolding(crate::specs::Step::step_of, crate::specs::Step::bytes_table), using(crate::proofs::Codec::unshaped))]
+pub fn of_bytes(a: u8, b: u8, c: u8, d: u8, e: u8, f: u8) -> Result<Step, Fault>
     ensures value { result ≡ step_of (a ∷ b ∷ c ∷ d ∷ e ∷ f ∷ []) }
     ensures result_value { step_read_number result ≡ bytes_table (a ∷ b ∷ c ∷ d ∷ e ∷ f ∷ []) }
 {
-    let StepRead::Good(step) = shape(a, b, c, d, e, f) else {
-        return StepRead::Refused(Fault::Unallowed);
-    };
-    judge(step)
+    judge(shape(a, b, c, d, e, f)?)
 }
 
 // The step at a place of a list of bytes. Fewer than six bytes are no step.
-pub fn read_at(list: &[u8], place: usize) -> StepRead
+#[tactic(auto, using(crate::proofs::Codec::read_short, crate::proofs::Codec::short_number))]
+pub fn read_at(list: &[u8], place: usize) -> Result<Step, Fault>
     ensures value { result ≡ read_at list.now place }
     ensures result_value { step_read_number result ≡ bytes_table (take 6 (drop place list.now)) }
 {
-    if list.len() < 6 {
-        return StepRead::Refused(Fault::Unallowed);
-    }
-    if list.len() - 6 < place {
-        return StepRead::Refused(Fault::Unallowed);
-    }
-    of_bytes(
-        list[place],
-        list[place + 1],
-        list[place + 2],
-        list[place + 3],
-        list[place + 4],
-        list[place + 5],
-    )
+    let Some([a, b, c, d, e, f, ..]) = list.get(place..) else {
+        return Err(Fault::Unallowed);
+    };
+    of_bytes(*a, *b, *c, *d, *e, *f)
 }
 
 // A step written as six bytes, whether it is legal or not.
+#[tactic(auto, unfolding(crate::specs::Step::bytes_of))]
 pub fn to_bytes(step: Step) -> [u8; 6]
     ensures { result ≡ bytes_of step }
 {

@@ -24,10 +24,10 @@ use Rattle.script.proofs.Checking.{Legal}
 use Rattle.script.proofs.Counting.{block-kept, count_last, legal_few}
 use Rattle.script.proofs.Rules.{Rules, count_few}
 use Rattle.script_writer.specs.Write.{whole_steps, blocks_for, steps_here, front, block_of, blocks_to, file_of, written, steps_of}
-use Rattle.script_writer.specs.declared.Written.TheVariants.{Blocks}
 use Rattle.script_writer.proofs.Back.{blocks_at, step_back}
 use Rattle.script_writer.proofs.Blocks.{length_front, front-past, length-blocks}
 use Rattle.script_writer.proofs.Writing.{says-written}
+use Rattle.std.specs.Prelude.{Ok}
 
 -- a fact of each of the first six places
 six : (P : ℕ → Type 0) → P 0 → P 1 → P 2 → P 3 → P 4 → P 5 → (i : ℕ) → i < 6 → P i
@@ -179,9 +179,9 @@ module _ (f : List ℕ) (m : ℕ) (bytes : Bytes f) (acc : Legal f m) where
       let k : j < m = omega (arith, length_steps) in
       ap is_good (step_again j k) ∙ end_first (λ i. is_good (step_at InBlocks f i)) m acc.steps_legal j k
 
-  pub written-again : (room : ℕ) → length f ≤ room → written S room ≡ Blocks M
+  pub written-again : (room : ℕ) → length f ≤ room → written S room ≡ Ok M
   written-again room h =
-      says-written S room (Blocks M) (record {
+      says-written S room (Ok M) (record {
         legal = record { whole = list_whole; steps_legal = list_good };
         many = blocks-again;
         fits = omega arith;

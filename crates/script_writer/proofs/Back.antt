@@ -11,7 +11,8 @@ use borrow.Author.Tests.{le-leb, eq-eqb, ne_eqb}
 use lib.Dec.{eqb}
 use lib.ListN.{length, take, drop, get_or, length-take, length-drop, get_or-append, get_or-eq_default}
 use lib.Seq.{ext_get_or}
-use Rattle.lists.proofs.Parts.{get_d_past, get_d_part}
+use Rattle.lists.proofs.Parts.{get_d_part}
+use Rattle.std.proofs.Math.Seq.{get_or-append_right}
 use Rattle.lists.proofs.Scan.{every_all, first_end, end_first}
 use Rattle.lists.proofs.Tab.{tab-length, tab-at}
 use Rattle.lists.proofs.Tests.{Units, units, units_test}
@@ -20,13 +21,13 @@ use Rattle.script.specs.Block.{count_legal, unused_zero, block_legal}
 use Rattle.script.specs.File.{whole_blocks, blocks, block, legal_at, first_bad_block, step_count, step_place, step_at, first_bad_step, checked}
 use Rattle.script.specs.Reader.{as_next, next_of}
 use Rattle.script.specs.declared.Layout.TheVariants.{Plain, Blocks as InBlocks}
-use Rattle.script.specs.declared.Checked.TheVariants.{Accepted}
 use Rattle.script.proofs.Check.{check_makes}
 use Rattle.script.proofs.Checking.{says-checked}
 use Rattle.script.proofs.Reading.{next_there}
 use Rattle.script.proofs.Rules.{Rules, rules_legal}
 use Rattle.script_writer.specs.Write.{whole_steps, blocks_for, steps_here, front, block_of, blocks_to, file_of, steps_of}
 use Rattle.script_writer.proofs.Blocks.{length_front, front-past, length-block, length-blocks}
+use Rattle.std.specs.Prelude.{Ok}
 
 -- ---- where a byte of the file stands
 pub blocks_at : (s : List ℕ) (n k i : ℕ) → i < 512 * k → get_or (blocks_to s n k) i 0 ≡ get_or (block_of s (i / 512) n) (i % 512) 0
@@ -41,7 +42,7 @@ blocks_at s n (suc k) i h = go (dec_lt i (512 * k)) (blocks_at s n k i)
         let l = length-blocks s n k in
         let a : i - length (blocks_to s n k) ≡ i % 512 = omega arith in
         let b : k ≡ i / 512 = omega arith in
-        get_d_past (blocks_to s n k) (block_of s k n) i (omega arith)
+        get_or-append_right (blocks_to s n k) (block_of s k n) i 0 (omega arith)
         ∙ ap (λ (j : ℕ). get_or (block_of s k n) j 0) a
         ∙ ap (λ (j : ℕ). get_or (block_of s j n) (i % 512) 0) b
 
@@ -197,8 +198,8 @@ module _ (s : List ℕ) (w : whole_steps s ≡ true) where
     file_steps : first_bad_step InBlocks (file_of s) m ≡ m
     file_steps = first_end _ m λ j h. ap is_good (step_back j h) ∙ end_first (λ i. is_good (step_at Plain s i)) m good j h
 
-    pub accepted_back : checked (file_of s) ≡ Accepted m
-    accepted_back = says-checked (file_of s) (Accepted m) (record { whole = file_whole; blocks-legal = file_legal; count = file_count; steps_legal = file_steps })
+    pub accepted_back : checked (file_of s) ≡ Ok m
+    accepted_back = says-checked (file_of s) (Ok m) (record { whole = file_whole; blocks-legal = file_legal; count = file_count; steps_legal = file_steps })
 
     -- the reader over the file hands out the steps of the list
     pub next_back : (j : ℕ) → j < m → next_of (file_of s) j ≡ as_next (step_at Plain s j) j

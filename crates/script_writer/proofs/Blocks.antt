@@ -9,7 +9,8 @@ use borrow.Rule.Slice.PartMut.{put_mid}
 use lib.ListN.{length, take, drop, get_or, set, length-append, length-drop, drop_of_length-le}
 use lib.Seq.{sets-eq, take_at, paste, paste-suc}
 use Rattle.lists.specs.Put.{put}
-use Rattle.lists.proofs.Parts.{get_d_past, part_back}
+use Rattle.lists.proofs.Parts.{part_back}
+use Rattle.std.proofs.Math.Seq.{get_or-append_right}
 use Rattle.lists.proofs.Put.{put_then}
 use Rattle.lists.proofs.Tab.{tab-length, tab-at}
 use Rattle.script.specs.Block.{check_word}
@@ -38,7 +39,7 @@ places-more s k b₀ b i r eb er h hb =
 -- past the header stand the bytes of the list
 pub front-past : (s : List ℕ) (k n i : ℕ) → 6 ≤ i → i < 510 → get_or (front s k n) i 0 ≡ get_or s (504 * k + (i - 6)) 0
 unfolding front
-front-past s k n i h h' = get_d_past (header s k n) (places s k) i h ∙ places-at s k (i - 6) (omega arith)
+front-past s k n i h h' = get_or-append_right (header s k n) (places s k) i 0 h ∙ places-at s k (i - 6) (omega arith)
 
 -- ---- a block: what the header, the places and the last two stores make of 512 bytes
 module _ (s : List ℕ) (k n : ℕ) (b b₁ b₂ : List ℕ) (hb : length b ≡ 512) (e₁ : b₁ ≡ put b 0 (header s k n)) (e₂ : b₂ ≡ put b₁ 6 (places s k)) where
@@ -85,12 +86,3 @@ blocks_back s n k y b o ho hy =
     ∙ ap (λ (l : List ℕ). blocks_to s n k ++ l ++ drop (512 * k + 512) b) hy
     ∙ ap (λ (l : List ℕ). l ++ drop (512 * k + 512) b) (sym (blocks_more s n k))
     ∙ ap (λ (i : ℕ). blocks_to s n (k + 1) ++ drop i b) e
-
-pub length_back : (s : List ℕ) (n k : ℕ) (b : List ℕ) → 512 * k ≤ length b → length (blocks_to s n k ++ drop (512 * k) b) ≡ length b
-length_back s n k b h = simp (length-append, length-blocks, length-drop) (omega arith)
-
--- the loop's end is the file put in
-pub blocks-put : (s : List ℕ) (n : ℕ) (b : List ℕ) → blocks_to s n n ++ drop (512 * n) b ≡ put b 0 (blocks_to s n n)
-blocks-put s n b =
-    let e : 512 * n ≡ 0 + length (blocks_to s n n) = omega (arith, length-blocks s n n) in
-    ap (λ (m : ℕ). blocks_to s n n ++ drop m b) e

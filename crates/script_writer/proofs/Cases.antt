@@ -13,10 +13,8 @@ use Rattle.script_steps.specs.declared.Step.TheVariants.{Set}
 use Rattle.script.specs.Block.{word, word_sum, content_legal, block_legal}
 use Rattle.script.specs.File.{step_count, steps_checked, checked}
 use Rattle.script.specs.Reader.{next_of}
-use Rattle.script.specs.declared.Checked.TheVariants.{Accepted}
-use Rattle.script.specs.declared.Next.TheVariants.{Found}
 use Rattle.script_writer.specs.Write.{front, blocks_to, file_of, written}
-use Rattle.script_writer.specs.declared.Written.TheVariants.{Blocks}
+use Rattle.std.specs.Prelude.{Ok, Some}
 
 -- group 3 is XR
 abbrev pub list_13 : List ℕ
@@ -26,14 +24,14 @@ pub case_13_check : word (file_of list_13) 510 ≡ 0xB89F
 unfolding bytes_of blocks_to front tab word_sum
 case_13_check = refl
 
-pub case_13-written : written list_13 512 ≡ Blocks 1
+pub case_13-written : written list_13 512 ≡ Ok 1
 unfolding written steps_checked first_not step_of shaped judged names legal fits idle group_at row_of xr_lines bytes_of
 case_13-written = refl
 
-pub case_13-checked : checked (file_of list_13) ≡ Accepted 1
+pub case_13-checked : checked (file_of list_13) ≡ Ok 1
 unfolding checked steps_checked block_legal content_legal first_not every step_count step_of shaped judged names legal fits idle group_at row_of xr_lines bytes_of blocks_to front tab word_sum
 case_13-checked = refl
 
-pub case_13-read : next_of (file_of list_13) 0 ≡ Found (Set 3 0x60 0x43)
+pub case_13-read : next_of (file_of list_13) 0 ≡ Ok (Some (Set 3 0x60 0x43))
 unfolding next_of step_count step_of shaped judged names legal fits idle group_at row_of xr_lines bytes_of blocks_to front tab word_sum
 case_13-read = refl

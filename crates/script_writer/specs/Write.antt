@@ -2,7 +2,7 @@
 -- a list that is not 1 to 1,008 whole steps, then 7 or, by document 02, P2, 11 for the first step that does
 -- not pass, then 9 for an output under 512 bytes a block; else the file, with the bytes after it as they
 -- were. A block is laid out as specs/Block of the crate script says. The round trips are proofs/RoundTrip.
-use Rattle.std.specs.Prelude.{ℕ, zero, suc, ◌+◌, ◌-◌, ◌*◌, ◌/◌, ◌%◌, min, List, [], ◌∷◌, ◌++◌, Bool, cond, not, length, get_or, ltb, eqb}
+use Rattle.std.specs.Prelude.{ℕ, zero, suc, ◌+◌, ◌-◌, ◌*◌, ◌/◌, ◌%◌, min, List, [], ◌∷◌, ◌++◌, Bool, cond, not, length, get_or, ltb, eqb, Result, Ok, Err}
 use Rattle.lists.specs.Numbers.{Returned, returned}
 use Rattle.lists.specs.Put.{put}
 use Rattle.lists.specs.Tab.{tab}
@@ -12,10 +12,7 @@ use Rattle.script.specs.File.{step_place, steps_checked}
 use Rattle.script.specs.Numbers.{of_refusal, steps_table}
 use Rattle.script.specs.declared.Layout.TheVariants.{Plain, Blocks as InBlocks}
 use Rattle.script.specs.declared.Refusal.TheVariants.{Length, Room}
-use Rattle.script.specs.declared.Checked.{Checked}
-use Rattle.script.specs.declared.Checked.TheVariants.{Accepted, Refused as NotAccepted}
-use Rattle.script_writer.specs.declared.Written.{Written}
-use Rattle.script_writer.specs.declared.Written.TheVariants.{Blocks, Refused}
+use Rattle.script.specs.declared.Refusal.{Refusal}
 
 -- "1 to 1,008 whole steps"
 abbrev pub whole_steps : List ℕ → Bool
@@ -50,23 +47,23 @@ abbrev pub file_of : List ℕ → List ℕ
 file_of s = blocks_to s (blocks_for s) (blocks_for s)
 
 -- steps that pass want 512 bytes a block
-abbrev pub if_room : Checked → List ℕ → ℕ → Written
-if_room (Accepted m) s room = cond (ltb room (512 * blocks_for s)) (Refused Room) (Blocks (blocks_for s))
-if_room (NotAccepted r) s room = Refused r
+abbrev pub if_room : Result ℕ Refusal → List ℕ → ℕ → Result ℕ Refusal
+if_room (Ok m) s room = cond (ltb room (512 * blocks_for s)) (Err Room) (Ok (blocks_for s))
+if_room (Err r) s room = Err r
 
 -- 8, then 7 or 11, then 9; else the number of blocks
-unfoldable pub written : List ℕ → ℕ → Written
-written s room = cond (not (whole_steps s)) (Refused Length) (if_room (steps_checked Plain s 0 (length s / 6)) s room)
+unfoldable pub written : List ℕ → ℕ → Result ℕ Refusal
+written s room = cond (not (whole_steps s)) (Err Length) (if_room (steps_checked Plain s 0 (length s / 6)) s room)
 
 -- what the lent output then holds: a refusal changes no byte
-abbrev pub left_by : Written → List ℕ → List ℕ → List ℕ
-left_by (Blocks n) s out = put out 0 (file_of s)
-left_by (Refused r) s out = out
+abbrev pub left_by : Result ℕ Refusal → List ℕ → List ℕ → List ℕ
+left_by (Ok n) s out = put out 0 (file_of s)
+left_by (Err r) s out = out
 
 -- document 01's number and value for each answer, and its table for a list of steps
-abbrev pub of_written : Written → Returned
-of_written (Blocks n) = returned 0 n
-of_written (Refused r) = of_refusal r
+abbrev pub of_written : Result ℕ Refusal → Returned
+of_written (Ok n) = returned 0 n
+of_written (Err r) = of_refusal r
 
 abbrev pub written_table : List ℕ → ℕ → Returned
 written_table s room =

@@ -4,7 +4,7 @@
 // what came out, and zeros after it.
 #![tactic(auto)]
 
-ghost use Rattle.std.specs.Prelude.{◌≤◌};
+ghost use Rattle.std.specs.Prelude.{◌≤◌, length};
 
 use blit::block_transfer;
 use blit_frame::{Area, Transfer};
@@ -20,28 +20,28 @@ use memory::answer_number;
 use script_commands::translate;
 use std::io::Write;
 
-// A capital hexadecimal digit.
-fn digit(x: u8) -> u8 {
-    let d = x % 16;
-    if d < 10 { d + 48 } else { d + 55 }
-}
-
-// Whether two cases have the same sixteen bytes.
-fn agree(got: [u8; 16], want: [u8; 16]) -> bool {
-    got == want
+// A case with these bytes, and zeros after them.
+fn case(bytes: &[u8]) -> [u8; 16]
+    requires { length bytes.now ≤ 16 }
+{
+    let mut out = [0u8; 16];
+    out[..bytes.len()].copy_from_slice(bytes);
+    out
 }
 
 // The bytes that came out.
 fn print_bytes<W: Write>(out: &mut W, got: [u8; 16]) {
     for byte in got {
-        let _ = out.write_all(&[b' ', digit(byte / 16), digit(byte)]);
+        let _ = write!(out, " {byte:02X}");
     }
 }
 
 // The line of a case.
-fn report<W: Write>(out: &mut W, case: u64, got: [u8; 16], want: [u8; 16]) {
-    let _ = write!(out, "{case}");
-    if agree(got, want) {
+fn report<W: Write>(out: &mut W, number: u64, got: [u8; 16], want: &[u8])
+    requires { length want.now ≤ 16 }
+{
+    let _ = write!(out, "{number}");
+    if got == case(want) {
         let _ = out.write_all(b" ok");
     } else {
         let _ = out.write_all(b" got");
@@ -51,11 +51,11 @@ fn report<W: Write>(out: &mut W, case: u64, got: [u8; 16], want: [u8; 16]) {
 }
 
 // The line of a case of a request.
-fn report_request<W: Write>(out: &mut W, request: u64, case: u64, got: [u8; 16], want: [u8; 16]) {
-    let _ = out.write_all(b"P");
-    let _ = write!(out, "{request}");
-    let _ = out.write_all(b".");
-    report(out, case, got, want);
+fn report_request<W: Write>(out: &mut W, request: u64, number: u64, got: [u8; 16], want: &[u8])
+    requires { length want.now ≤ 16 }
+{
+    let _ = write!(out, "P{request}.");
+    report(out, number, got, want);
 }
 
 // 1. XR60, XR67, MR1F written FFh.
@@ -63,55 +63,38 @@ fn case_1() -> [u8; 16] {
     let a = after(after(Chip::new(0x02, 0x00), 0x3D6, 0x60), 0x3D7, 0xFF);
     let b = after(after(a, 0x3D6, 0x67), 0x3D7, 0xFF);
     let c = after(after(b, 0x3D2, 0x1F), 0x3D3, 0xFF);
-    let mut out = [0u8; 16];
-    out[0] = seen(a, 0x3D7);
-    out[1] = seen(b, 0x3D7);
-    out[2] = seen(c, 0x3D3);
-    out
+    case(&[seen(a, 0x3D7), seen(b, 0x3D7), seen(c, 0x3D3)])
 }
 
 // 2. First pin byte 02h: XR70.
 fn case_2() -> [u8; 16] {
-    let mut out = [0u8; 16];
-    out[0] = seen(after(Chip::new(0x02, 0x00), 0x3D6, 0x70), 0x3D7);
-    out
+    case(&[seen(after(Chip::new(0x02, 0x00), 0x3D6, 0x70), 0x3D7)])
 }
 
 // 3. First pin byte 00h: reading 3D7h, number and byte.
 fn case_3() -> [u8; 16] {
     let c = Chip::new(0x00, 0x00);
-    let mut out = [0u8; 16];
-    out[0] = read_number(c, 0x3D7);
-    out[1] = seen(c, 0x3D7);
-    out
+    case(&[read_number(c, 0x3D7), seen(c, 0x3D7)])
 }
 
 // 4. CR07 = 00h, CR11 = 80h, then FFh to CR07.
 fn case_4() -> [u8; 16] {
     let a = after(after(Chip::new(0x02, 0x00), 0x3B4, 0x07), 0x3B5, 0x00);
     let b = after(after(a, 0x3B4, 0x11), 0x3B5, 0x80);
-    let mut out = [0u8; 16];
-    out[0] = seen(after(after(b, 0x3B4, 0x07), 0x3B5, 0xFF), 0x3B5);
-    out
+    case(&[seen(after(after(b, 0x3B4, 0x07), 0x3B5, 0xFF), 0x3B5)])
 }
 
 // 5. MSR bit 0 = 1 and the CR index 0Ah: 3B5h reads FFh, and a write to 3B4h leaves the index.
 fn case_5() -> [u8; 16] {
     let c = after(after(Chip::new(0x02, 0x00), 0x3C2, 0x01), 0x3D4, 0x0A);
-    let mut out = [0u8; 16];
-    out[0] = seen(c, 0x3B5);
-    out[1] = seen(after(c, 0x3B4, 0x55), 0x3D4);
-    out
+    case(&[seen(c, 0x3B5), seen(after(c, 0x3B4, 0x55), 0x3D4)])
 }
 
 // 6. 3D6h gets 61h, 3D7h gets 08h, 3D7h gets 43h: XR61 and XR60.
 fn case_6() -> [u8; 16] {
     let a = after(Chip::new(0x02, 0x00), 0x3D6, 0x61);
     let c = after(after(a, 0x3D7, 0x08), 0x3D7, 0x43);
-    let mut out = [0u8; 16];
-    out[0] = c.get(Group::Xr, 0x61);
-    out[1] = c.get(Group::Xr, 0x60);
-    out
+    case(&[c.get(Group::Xr, 0x61), c.get(Group::Xr, 0x60)])
 }
 
 // 7. Six-bit mode, PALMASK FFh, 3C8h gets 255, data 63, 0, 21, 255, 2, 3: entry 255, shown, and entry 0.
@@ -122,24 +105,22 @@ fn case_7() -> [u8; 16] {
     let last = c.entry(255);
     let light = c.shown(255);
     let first = c.entry(0);
-    let mut out = [0u8; 16];
-    out[0] = last.red;
-    out[1] = last.green;
-    out[2] = last.blue;
-    out[3] = light.red;
-    out[4] = light.green;
-    out[5] = light.blue;
-    out[6] = first.red;
-    out[7] = first.green;
-    out[8] = first.blue;
-    out
+    case(&[
+        last.red,
+        last.green,
+        last.blue,
+        light.red,
+        light.green,
+        light.blue,
+        first.red,
+        first.green,
+        first.blue,
+    ])
 }
 
 // 8. P = F0h, S = CCh, D = AAh, code B8h.
 fn case_8() -> [u8; 16] {
-    let mut out = [0u8; 16];
-    out[0] = raster_byte(0xB8, 0xF0, 0xCC, 0xAA);
-    out
+    case(&[raster_byte(0xB8, 0xF0, 0xCC, 0xAA)])
 }
 
 // One line in a memory of 4,096 bytes that begins 1, 2, 3, 4, 5: the number, and the first five bytes.
@@ -170,50 +151,42 @@ fn one_line(code: u8, leftward: bool, width: usize, source: usize, destination: 
         pattern_row: 0,
     };
     let answer = block_transfer(&mut mem, t);
-    let mut out = [0u8; 16];
-    out[0] = answer_number(answer);
-    out[1] = mem[0];
-    out[2] = mem[1];
-    out[3] = mem[2];
-    out[4] = mem[3];
-    out[5] = mem[4];
-    out
+    case(&[
+        answer_number(answer),
+        mem[0],
+        mem[1],
+        mem[2],
+        mem[3],
+        mem[4],
+    ])
 }
 
 // 11. Memory 4,096, code F0h, pattern 0, destination 4,095, height 1, forward: widths 1 and 2.
 fn case_11() -> [u8; 16] {
     let one = one_line(0xF0, false, 1, 0, 4095);
     let two = one_line(0xF0, false, 2, 0, 4095);
-    let mut out = [0u8; 16];
-    out[0] = one[0];
-    out[1] = two[0];
-    out
+    case(&[one[0], two[0]])
 }
 
-// The first sixteen bytes of thirty-two.
-fn front(bytes: [u8; 32]) -> [u8; 16] {
-    let mut out = [0u8; 16];
-    out.copy_from_slice(&bytes[..16]);
-    out
-}
-
-// 12. FIELD XR80, mask 80h, value 80h, written as a file and translated: the bytes of its commands.
-fn case_12() -> [u8; 16] {
+// One step written as a file and translated: the first sixteen bytes of its commands.
+fn commands_of(step: [u8; 6]) -> [u8; 16] {
     let mut file = [0u8; 512];
-    script_writer::write(&[2, 3, 0x80, 0x80, 0x80, 0], &mut file);
+    let _ = script_writer::write(&step, &mut file);
     let mut out = [0u8; 32];
-    translate(&file, &mut out);
-    front(out)
+    let _ = translate(&file, &mut out);
+    case(&out[..16])
+}
+
+// 12. FIELD XR80, mask 80h, value 80h: its commands.
+fn case_12() -> [u8; 16] {
+    commands_of([2, 3, 0x80, 0x80, 0x80, 0])
 }
 
 // 13. One block, SET XR60 43h: the check, high byte first.
 fn case_13() -> [u8; 16] {
     let mut file = [0u8; 512];
-    script_writer::write(&[1, 3, 0x60, 0x43, 0, 0], &mut file);
-    let mut out = [0u8; 16];
-    out[0] = file[511];
-    out[1] = file[510];
-    out
+    let _ = script_writer::write(&[1, 3, 0x60, 0x43, 0, 0], &mut file);
+    case(&[file[511], file[510]])
 }
 
 // P1.1. XR09 = 03h; 3C0h gets 11h and 5Ah, 12h and FFh: AR11, AR12, and what 3C1h and 3C0h read.
@@ -221,12 +194,12 @@ fn case_p1_1() -> [u8; 16] {
     let a = after(after(Chip::new(0x02, 0x00), 0x3D6, 0x09), 0x3D7, 0x03);
     let b = after(after(a, 0x3C0, 0x11), 0x3C0, 0x5A);
     let c = after(after(b, 0x3C0, 0x12), 0x3C0, 0xFF);
-    let mut out = [0u8; 16];
-    out[0] = c.get(Group::Ar, 0x11);
-    out[1] = c.get(Group::Ar, 0x12);
-    out[2] = seen(c, 0x3C1);
-    out[3] = seen(c, 0x3C0);
-    out
+    case(&[
+        c.get(Group::Ar, 0x11),
+        c.get(Group::Ar, 0x12),
+        seen(c, 0x3C1),
+        seen(c, 0x3C0),
+    ])
 }
 
 // P1.2. MSR bit 0 = 0: the turn after 3C0h, 3C1h and 3DAh are read, and after 3BAh is. With MSR bit 0 = 1: after
@@ -238,16 +211,16 @@ fn case_p1_2() -> [u8; 16] {
     let d = after(after_read(after(c, 0x3C0, 0x14), 0x3BA), 0x3C0, 0x11);
     let e = after(after_read(after(d, 0x3C2, 0x01), 0x3BA), 0x3C0, 0x22);
     let f = after(after_read(after(e, 0x3C0, 0x14), 0x3DA), 0x3C0, 0x10);
-    let mut out = [0u8; 16];
-    out[0] = seen(a, 0x3DA);
-    out[1] = c.get(Group::Ar, 0x13);
-    out[2] = seen(a, 0x3BA);
-    out[3] = d.get(Group::Ar, 0x14);
-    out[4] = seen(d, 0x3C0);
-    out[5] = e.get(Group::Ar, 0x11);
-    out[6] = f.get(Group::Ar, 0x14);
-    out[7] = seen(f, 0x3C0);
-    out
+    case(&[
+        seen(a, 0x3DA),
+        c.get(Group::Ar, 0x13),
+        seen(a, 0x3BA),
+        d.get(Group::Ar, 0x14),
+        seen(d, 0x3C0),
+        e.get(Group::Ar, 0x11),
+        f.get(Group::Ar, 0x14),
+        seen(f, 0x3C0),
+    ])
 }
 
 // P1.3. AR00 = 15h, then 3Fh with index bit 5 set; AR10 = 41h with bit 5 set; AR00 = 3Fh with bit 5 clear.
@@ -256,34 +229,30 @@ fn case_p1_3() -> [u8; 16] {
     let b = after(after(a, 0x3C0, 0x20), 0x3C0, 0x3F);
     let c = after(after(b, 0x3C0, 0x30), 0x3C0, 0x41);
     let d = after(after(c, 0x3C0, 0x00), 0x3C0, 0x3F);
-    let mut out = [0u8; 16];
-    out[0] = seen(b, 0x3C1);
-    out[1] = seen(b, 0x3C0);
-    out[2] = c.get(Group::Ar, 0x10);
-    out[3] = d.get(Group::Ar, 0x00);
-    out
+    case(&[
+        seen(b, 0x3C1),
+        seen(b, 0x3C0),
+        c.get(Group::Ar, 0x10),
+        d.get(Group::Ar, 0x00),
+    ])
 }
 
 // P1.4. 3C0h gets E5h; index 15h gets FFh; writes to 3C1h, 3BAh and 3DAh.
 fn case_p1_4() -> [u8; 16] {
     let a = after(Chip::new(0x02, 0x00), 0x3C0, 0xE5);
     let b = after(after(after(a, 0x3C0, 0x00), 0x3C0, 0x15), 0x3C0, 0xFF);
-    let mut out = [0u8; 16];
-    out[0] = seen(a, 0x3C0);
-    out[1] = seen(b, 0x3C1);
-    out[2] = refusal(b, 0x3C1, 0x01);
-    out[3] = refusal(b, 0x3BA, 0x02);
-    out[4] = refusal(b, 0x3DA, 0x03);
-    out
+    case(&[
+        seen(a, 0x3C0),
+        seen(b, 0x3C1),
+        refusal(b, 0x3C1, 0x01),
+        refusal(b, 0x3BA, 0x02),
+        refusal(b, 0x3DA, 0x03),
+    ])
 }
 
-// P1.5. SET AR11 07h, written as a file and translated: the first four of its commands.
+// P1.5. SET AR11 07h: the first four of its commands.
 fn case_p1_5() -> [u8; 16] {
-    let mut file = [0u8; 512];
-    script_writer::write(&[1, 8, 0x11, 0x07, 0, 0], &mut file);
-    let mut out = [0u8; 32];
-    translate(&file, &mut out);
-    front(out)
+    commands_of([1, 8, 0x11, 0x07, 0, 0])
 }
 
 // The case with what the writer answers for steps, with room for a block, from a place on: the number and the value.
@@ -333,24 +302,24 @@ fn case_p2_3() -> [u8; 16] {
 fn case_p2_4() -> [u8; 16] {
     let a = after(Chip::new(0x02, 0x00), 0x3D6, 0x70);
     let b = after(a, 0x3C4, 0x05);
-    let mut out = [0u8; 16];
-    out[0] = refusal(a, 0x3D7, 0xFF);
-    out[1] = seen(after(a, 0x3D7, 0xFF), 0x3D7);
-    out[2] = refusal(b, 0x3C5, 0xFF);
-    out[3] = seen(after(b, 0x3C5, 0xFF), 0x3C5);
-    out
+    case(&[
+        refusal(a, 0x3D7, 0xFF),
+        seen(after(a, 0x3D7, 0xFF), 0x3D7),
+        refusal(b, 0x3C5, 0xFF),
+        seen(after(b, 0x3C5, 0xFF), 0x3C5),
+    ])
 }
 
 // P5.1. 3C4h gets 0Ah and 3C5h 0Fh, 3CEh gets 18h and 3CFh A5h: what the index ports read, SR02 and GR08.
 fn case_p5_1() -> [u8; 16] {
     let a = after(after(Chip::new(0x02, 0x00), 0x3C4, 0x0A), 0x3C5, 0x0F);
     let b = after(after(a, 0x3CE, 0x18), 0x3CF, 0xA5);
-    let mut out = [0u8; 16];
-    out[0] = seen(b, 0x3C4);
-    out[1] = b.get(Group::Sr, 0x02);
-    out[2] = seen(b, 0x3CE);
-    out[3] = b.get(Group::Gr, 0x08);
-    out
+    case(&[
+        seen(b, 0x3C4),
+        b.get(Group::Sr, 0x02),
+        seen(b, 0x3CE),
+        b.get(Group::Gr, 0x08),
+    ])
 }
 
 // P5.2. All seven index ports get FFh: what they read.
@@ -358,15 +327,15 @@ fn case_p5_2() -> [u8; 16] {
     let a = after(after(Chip::new(0x02, 0x00), 0x3B4, 0xFF), 0x3D6, 0xFF);
     let b = after(after(a, 0x3D0, 0xFF), 0x3D2, 0xFF);
     let c = after(after(after(b, 0x3C4, 0xFF), 0x3CE, 0xFF), 0x3C0, 0xFF);
-    let mut out = [0u8; 16];
-    out[0] = seen(c, 0x3B4);
-    out[1] = seen(c, 0x3D6);
-    out[2] = seen(c, 0x3D0);
-    out[3] = seen(c, 0x3D2);
-    out[4] = seen(c, 0x3C4);
-    out[5] = seen(c, 0x3CE);
-    out[6] = seen(c, 0x3C0);
-    out
+    case(&[
+        seen(c, 0x3B4),
+        seen(c, 0x3D6),
+        seen(c, 0x3D0),
+        seen(c, 0x3D2),
+        seen(c, 0x3C4),
+        seen(c, 0x3CE),
+        seen(c, 0x3C0),
+    ])
 }
 
 // P5.3. SET SR0A 0Fh; SET SR05 00h, SET SR0A 0Fh; FIELD GR10, mask 00h; SET SR07 FFh, SET GR08 FFh.
@@ -491,127 +460,47 @@ fn case_p6_8() -> [u8; 16] {
 
 // Document 01's set-ups.
 fn set_ups<W: Write>(out: &mut W) {
-    report(
-        out,
-        1,
-        case_1(),
-        [0x43, 0x02, 0xEB, 0, 0, 0, 0, 0, 0, 0, 0, 0, 0, 0, 0, 0],
-    );
-    report(
-        out,
-        2,
-        case_2(),
-        [0x03, 0, 0, 0, 0, 0, 0, 0, 0, 0, 0, 0, 0, 0, 0, 0],
-    );
-    report(
-        out,
-        3,
-        case_3(),
-        [2, 0xFF, 0, 0, 0, 0, 0, 0, 0, 0, 0, 0, 0, 0, 0, 0],
-    );
-    report(
-        out,
-        4,
-        case_4(),
-        [0x10, 0, 0, 0, 0, 0, 0, 0, 0, 0, 0, 0, 0, 0, 0, 0],
-    );
-    report(
-        out,
-        5,
-        case_5(),
-        [0xFF, 0x0A, 0, 0, 0, 0, 0, 0, 0, 0, 0, 0, 0, 0, 0, 0],
-    );
-    report(
-        out,
-        6,
-        case_6(),
-        [0x43, 0x00, 0, 0, 0, 0, 0, 0, 0, 0, 0, 0, 0, 0, 0, 0],
-    );
-    report(
-        out,
-        7,
-        case_7(),
-        [63, 0, 21, 252, 0, 84, 63, 2, 3, 0, 0, 0, 0, 0, 0, 0],
-    );
-    report(
-        out,
-        8,
-        case_8(),
-        [0xB8, 0, 0, 0, 0, 0, 0, 0, 0, 0, 0, 0, 0, 0, 0, 0],
-    );
-    report(
-        out,
-        9,
-        one_line(0xCC, false, 4, 0, 1),
-        [0, 1, 1, 1, 1, 1, 0, 0, 0, 0, 0, 0, 0, 0, 0, 0],
-    );
-    report(
-        out,
-        10,
-        one_line(0xCC, true, 4, 3, 4),
-        [0, 1, 1, 2, 3, 4, 0, 0, 0, 0, 0, 0, 0, 0, 0, 0],
-    );
-    report(
-        out,
-        11,
-        case_11(),
-        [0, 4, 0, 0, 0, 0, 0, 0, 0, 0, 0, 0, 0, 0, 0, 0],
-    );
+    report(out, 1, case_1(), &[0x43, 0x02, 0xEB]);
+    report(out, 2, case_2(), &[0x03]);
+    report(out, 3, case_3(), &[2, 0xFF]);
+    report(out, 4, case_4(), &[0x10]);
+    report(out, 5, case_5(), &[0xFF, 0x0A]);
+    report(out, 6, case_6(), &[0x43, 0x00]);
+    report(out, 7, case_7(), &[63, 0, 21, 252, 0, 84, 63, 2, 3]);
+    report(out, 8, case_8(), &[0xB8]);
+    report(out, 9, one_line(0xCC, false, 4, 0, 1), &[0, 1, 1, 1, 1, 1]);
+    report(out, 10, one_line(0xCC, true, 4, 3, 4), &[0, 1, 1, 2, 3, 4]);
+    report(out, 11, case_11(), &[0, 4]);
     report(
         out,
         12,
         case_12(),
-        [
+        &[
             0x01, 0xD6, 0x03, 0x80, 0x02, 0xD7, 0x03, 0x00, 0x03, 0x7F, 0x80, 0x00, 0x04, 0xD7,
             0x03, 0x00,
         ],
     );
-    report(
-        out,
-        13,
-        case_13(),
-        [0xB8, 0x9F, 0, 0, 0, 0, 0, 0, 0, 0, 0, 0, 0, 0, 0, 0],
-    );
+    report(out, 13, case_13(), &[0xB8, 0x9F]);
 }
 
 // The cases of document 02's P1.
 fn request_1<W: Write>(out: &mut W) {
-    report_request(
-        out,
-        1,
-        1,
-        case_p1_1(),
-        [0x5A, 0x3F, 0x3F, 0x12, 0, 0, 0, 0, 0, 0, 0, 0, 0, 0, 0, 0],
-    );
+    report_request(out, 1, 1, case_p1_1(), &[0x5A, 0x3F, 0x3F, 0x12]);
     report_request(
         out,
         1,
         2,
         case_p1_2(),
-        [
-            0xFF, 0x07, 0x00, 0x00, 0x11, 0x22, 0x00, 0x10, 0, 0, 0, 0, 0, 0, 0, 0,
-        ],
+        &[0xFF, 0x07, 0x00, 0x00, 0x11, 0x22, 0x00, 0x10],
     );
-    report_request(
-        out,
-        1,
-        3,
-        case_p1_3(),
-        [0x15, 0x20, 0x41, 0x3F, 0, 0, 0, 0, 0, 0, 0, 0, 0, 0, 0, 0],
-    );
-    report_request(
-        out,
-        1,
-        4,
-        case_p1_4(),
-        [0x25, 0x00, 1, 1, 1, 0, 0, 0, 0, 0, 0, 0, 0, 0, 0, 0],
-    );
+    report_request(out, 1, 3, case_p1_3(), &[0x15, 0x20, 0x41, 0x3F]);
+    report_request(out, 1, 4, case_p1_4(), &[0x25, 0x00, 1, 1, 1]);
     report_request(
         out,
         1,
         5,
         case_p1_5(),
-        [
+        &[
             0x02, 0xBA, 0x03, 0x00, 0x02, 0xDA, 0x03, 0x00, 0x02, 0xC0, 0x03, 0x00, 0x03, 0x20,
             0x11, 0x00,
         ],
@@ -620,61 +509,23 @@ fn request_1<W: Write>(out: &mut W) {
 
 // The cases of document 02's P2.
 fn request_2<W: Write>(out: &mut W) {
-    report_request(
-        out,
-        2,
-        1,
-        case_p2_1(),
-        [11, 1, 11, 0, 0, 0, 0, 0, 0, 0, 0, 0, 0, 0, 0, 0],
-    );
-    report_request(
-        out,
-        2,
-        2,
-        case_p2_2(),
-        [7, 0, 7, 0, 11, 0, 0, 0, 0, 0, 0, 0, 0, 0, 0, 0],
-    );
-    report_request(
-        out,
-        2,
-        3,
-        case_p2_3(),
-        [0, 1, 0, 0, 0, 0, 0, 0, 0, 0, 0, 0, 0, 0, 0, 0],
-    );
-    report_request(
-        out,
-        2,
-        4,
-        case_p2_4(),
-        [0, 0x03, 0, 0x00, 0, 0, 0, 0, 0, 0, 0, 0, 0, 0, 0, 0],
-    );
+    report_request(out, 2, 1, case_p2_1(), &[11, 1, 11]);
+    report_request(out, 2, 2, case_p2_2(), &[7, 0, 7, 0, 11]);
+    report_request(out, 2, 3, case_p2_3(), &[0, 1]);
+    report_request(out, 2, 4, case_p2_4(), &[0, 0x03, 0, 0x00]);
 }
 
 // The cases of document 02's P5.
 fn request_5<W: Write>(out: &mut W) {
-    report_request(
-        out,
-        5,
-        1,
-        case_p5_1(),
-        [0x02, 0x0F, 0x08, 0xA5, 0, 0, 0, 0, 0, 0, 0, 0, 0, 0, 0, 0],
-    );
+    report_request(out, 5, 1, case_p5_1(), &[0x02, 0x0F, 0x08, 0xA5]);
     report_request(
         out,
         5,
         2,
         case_p5_2(),
-        [
-            0xFF, 0xFF, 0xFF, 0xFF, 0x07, 0x0F, 0x3F, 0, 0, 0, 0, 0, 0, 0, 0, 0,
-        ],
+        &[0xFF, 0xFF, 0xFF, 0xFF, 0x07, 0x0F, 0x3F],
     );
-    report_request(
-        out,
-        5,
-        3,
-        case_p5_3(),
-        [7, 0, 11, 0, 7, 0, 0, 1, 0, 0, 0, 0, 0, 0, 0, 0],
-    );
+    report_request(out, 5, 3, case_p5_3(), &[7, 0, 11, 0, 7, 0, 0, 1]);
 }
 
 // The cases of document 02's P6.
@@ -684,8 +535,8 @@ fn request_6<W: Write>(out: &mut W) {
         6,
         1,
         case_p6_1(),
-        [
-            0xFF, 0xFF, 0, 0x00, 0x43, 1, 0x43, 0x43, 0, 0x43, 0x43, 0, 0x43, 0x02, 1, 0,
+        &[
+            0xFF, 0xFF, 0, 0x00, 0x43, 1, 0x43, 0x43, 0, 0x43, 0x43, 0, 0x43, 0x02, 1,
         ],
     );
     report_request(
@@ -693,17 +544,15 @@ fn request_6<W: Write>(out: &mut W) {
         6,
         2,
         case_p6_2(),
-        [
-            0x00, 0x00, 0, 0x00, 0x00, 0, 0x62, 0x62, 0, 0, 0, 0, 0, 0, 0, 0,
-        ],
+        &[0x00, 0x00, 0, 0x00, 0x00, 0, 0x62, 0x62],
     );
     report_request(
         out,
         6,
         3,
         case_p6_3(),
-        [
-            0x00, 0x80, 1, 0x5F, 0x5F, 0, 0x00, 0x10, 1, 0x10, 0x00, 1, 0x00, 0xFF, 1, 0,
+        &[
+            0x00, 0x80, 1, 0x5F, 0x5F, 0, 0x00, 0x10, 1, 0x10, 0x00, 1, 0x00, 0xFF, 1,
         ],
     );
     report_request(
@@ -711,8 +560,8 @@ fn request_6<W: Write>(out: &mut W) {
         6,
         4,
         case_p6_4(),
-        [
-            0xFF, 0xFF, 0, 0xFF, 0xFF, 0, 0x00, 0x55, 1, 0xFF, 0xFF, 0, 0x55, 0xAA, 1, 0,
+        &[
+            0xFF, 0xFF, 0, 0xFF, 0xFF, 0, 0x00, 0x55, 1, 0xFF, 0xFF, 0, 0x55, 0xAA, 1,
         ],
     );
     report_request(
@@ -720,8 +569,8 @@ fn request_6<W: Write>(out: &mut W) {
         6,
         5,
         case_p6_5(),
-        [
-            0xFF, 0xFF, 0, 0x00, 0x15, 1, 0xFF, 0xFF, 0, 0x15, 0x15, 0, 0x00, 0x41, 1, 0,
+        &[
+            0xFF, 0xFF, 0, 0x00, 0x15, 1, 0xFF, 0xFF, 0, 0x15, 0x15, 0, 0x00, 0x41, 1,
         ],
     );
     report_request(
@@ -729,8 +578,8 @@ fn request_6<W: Write>(out: &mut W) {
         6,
         6,
         case_p6_6(),
-        [
-            0x00, 0xEF, 1, 0xEF, 0xEF, 0, 0x00, 0x0F, 1, 0x0F, 0x0F, 0, 0x0F, 0xFF, 1, 0,
+        &[
+            0x00, 0xEF, 1, 0xEF, 0xEF, 0, 0x00, 0x0F, 1, 0x0F, 0x0F, 0, 0x0F, 0xFF, 1,
         ],
     );
     report_request(
@@ -738,8 +587,8 @@ fn request_6<W: Write>(out: &mut W) {
         6,
         7,
         case_p6_7(),
-        [
-            0xFF, 0xFF, 0, 0xFF, 0xFF, 0, 0xFF, 0xFF, 1, 0xFF, 0xFF, 0, 0xFF, 0xFF, 0, 0,
+        &[
+            0xFF, 0xFF, 0, 0xFF, 0xFF, 0, 0xFF, 0xFF, 1, 0xFF, 0xFF, 0, 0xFF, 0xFF,
         ],
     );
     report_request(
@@ -747,9 +596,7 @@ fn request_6<W: Write>(out: &mut W) {
         6,
         8,
         case_p6_8(),
-        [
-            0xFF, 0xFF, 0, 0xFF, 0xFF, 0, 0xFF, 0xFF, 0, 1, 1, 2, 0, 0, 0, 0,
-        ],
+        &[0xFF, 0xFF, 0, 0xFF, 0xFF, 0, 0xFF, 0xFF, 0, 1, 1, 2],
     );
 }
 

@@ -5,74 +5,37 @@
 #![tactic(auto)]
 
 use chip::Chip;
-use chip_registers::{Group, Row, row_of};
+use chip_registers::{Group, Row, row_of, writable};
 use std::io::Write;
 
-// A capital hexadecimal digit.
-fn digit(x: u8) -> u8 {
-    let d = x % 16;
-    if d < 10 { d + 48 } else { d + 55 }
-}
-
-// The part of a line behind the name: writable bits and byte.
-fn print_row<W: Write>(out: &mut W, mask: u8, byte: u8) {
-    let text = [
-        b' ',
-        digit(mask / 16),
-        digit(mask),
-        b' ',
-        digit(byte / 16),
-        digit(byte),
-        b'\n',
-    ];
-    let _ = out.write_all(&text);
-}
-
-// The name of an indexed register: `CR 07`.
-fn print_name<W: Write>(out: &mut W, letter: u8, i: u8) {
-    let text = [letter, b'R', b' ', digit(i / 16), digit(i)];
-    let _ = out.write_all(&text);
-}
-
-// One register, if it is listed.
-fn print_register<W: Write>(out: &mut W, chip: Chip, letter: u8, g: Group, i: u8) {
-    match row_of(g, i) {
-        Row::Listed(mask, _) => {
-            print_name(out, letter, i);
-            print_row(out, mask, chip.get(g, i));
-        }
-        Row::Unlisted => {}
-    }
-}
-
-// The registers of a group.
-fn print_group<W: Write>(out: &mut W, chip: Chip, letter: u8, g: Group) {
+// The registers of a group, those that are listed.
+fn print_group<W: Write>(out: &mut W, chip: Chip, name: &str, g: Group) {
     for i in 0..=255 {
-        print_register(out, chip, letter, g, i);
+        if let Some(Row(mask, _)) = row_of(g, i) {
+            let byte = chip.get(g, i);
+            let _ = writeln!(out, "{name} {i:02X} {mask:02X} {byte:02X}");
+        }
     }
+}
+
+// A group of one register, which has no index.
+fn print_lone<W: Write>(out: &mut W, chip: Chip, name: &str, g: Group) {
+    let mask = writable(g, 0x00);
+    let byte = chip.get(g, 0x00);
+    let _ = writeln!(out, "{name} -- {mask:02X} {byte:02X}");
 }
 
 // All of the sheet.
 fn print_sheet<W: Write>(out: &mut W, chip: Chip) {
-    print_group(out, chip, b'C', Group::Cr);
-    print_group(out, chip, b'S', Group::Sr);
-    print_group(out, chip, b'G', Group::Gr);
-    print_group(out, chip, b'X', Group::Xr);
-    print_group(out, chip, b'F', Group::Fr);
-    print_group(out, chip, b'M', Group::Mr);
-    let _ = out.write_all(b"MSR --");
-    print_row(
-        out,
-        chip_registers::writable(Group::Msr, 0x00),
-        chip.get(Group::Msr, 0x00),
-    );
-    let _ = out.write_all(b"PALMASK --");
-    print_row(
-        out,
-        chip_registers::writable(Group::Palmask, 0x00),
-        chip.get(Group::Palmask, 0x00),
-    );
-    print_group(out, chip, b'A', Group::Ar);
+    print_group(out, chip, "CR", Group::Cr);
+    print_group(out, chip, "SR", Group::Sr);
+    print_group(out, chip, "GR", Group::Gr);
+    print_group(out, chip, "XR", Group::Xr);
+    print_group(out, chip, "FR", Group::Fr);
+    print_group(out, chip, "MR", Group::Mr);
+    print_lone(out, chip, "MSR", Group::Msr);
+    print_lone(out, chip, "PALMASK", Group::Palmask);
+    print_group(out, chip, "AR", Group::Ar);
 }
 
 fn main(rt: HostRuntime) {

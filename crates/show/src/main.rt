@@ -4,61 +4,21 @@
 // and nothing is printed.
 #![tactic(auto)]
 
-ghost use Rattle.std.specs.Prelude.{◌≡◌, length};
-
-use script::Refusal;
 use std::io::{Read, Write};
-use streams::{Got, print, read_input, say_unread};
-use text_from_script::{Shown, show};
-use text_refusals::complain;
-
-// Room for the lines of 1,008 steps, 20 bytes a line.
-fn text_buffer() -> [u8; 20160]
-    ensures { 20160 ≡ length result }
-{
-    [0; 20160]
-}
-
-// What is wrong with a file, in one write.
-fn print_complaint<E: Write>(err: &mut E, r: Refusal, text: &mut [u8]) {
-    let n = complain(text, 0, b"show", r);
-    let _ = err.write_all(&text[..n]);
-}
+use streams::{answer, read_or_say};
+use text_from_script::show;
 
 // The text, or the complaint.
-fn print_text<W: Write, E: Write>(out: &mut W, err: &mut E, file: &[u8], text: &mut [u8]) {
-    match show(file, text) {
-        Shown::Text(n) => {
-            print(out, err, b"show", &text[..n]);
-        }
-        Shown::Refused(r) => print_complaint(err, r, text),
-    }
-}
-
-// A file that could be read to its end.
-fn answer<R: Read, W: Write, E: Write>(
-    input: &mut R,
-    out: &mut W,
-    err: &mut E,
-    file: &mut [u8],
-    text: &mut [u8],
-) {
-    match read_input(input, file) {
-        Got::Bytes(n) => print_text(out, err, &file[..n], text),
-        Got::Failed => {
-            say_unread(err, b"show");
-        }
+fn run<R: Read, W: Write, E: Write>(input: &mut R, out: &mut W, err: &mut E) {
+    let mut file = [0u8; 6145];
+    // Room for the lines of 1,008 steps, 20 bytes a line.
+    let mut text = [0u8; 20160];
+    if let Some(file) = read_or_say(input, err, b"show", &mut file) {
+        let made = show(file, &mut text);
+        answer(out, err, b"show", &text, made);
     }
 }
 
 fn main(rt: HostRuntime) {
-    let mut file = [0u8; 6145];
-    let mut text = text_buffer();
-    answer(
-        &mut rt.stdin(),
-        &mut rt.stdout(),
-        &mut rt.stderr(),
-        &mut file,
-        &mut text,
-    );
+    run(&mut rt.stdin(), &mut rt.stdout(), &mut rt.stderr());
 }

@@ -1,54 +1,36 @@
 // An input read whole and an output written whole, with a failure told: for programs that read a file and print an answer.
 // What a program says then is one line on standard error, `NAME: cannot read standard input` or `NAME: cannot write standard
-// output`. Any reader may be the input, and any writers the output and the place for what is said. What is lent to be written
-// stays as it is.
+// output`, or what is wrong with the file. Any reader may be the input, and any writers the output and the place for what is
+// said. What is lent to be written stays as it is.
 #![tactic(auto)]
 
-ghost use Rattle.std.specs.Prelude.{◌≡◌, ◌+◌, ◌-◌, ◌≤◌, ◌++◌, true, length, take, drop};
-ghost use Rattle.std.specs.Io.KnownBytes.{Appends};
+ghost use Rattle.std.specs.Prelude.{◌≡◌, ◌<◌, ◌≤◌, ◌++◌, true, length, take, IfSome, IsSome, IfOk, IfErr, IsOk, IsErr};
+ghost use Rattle.std.specs.Io.KnownBytes.{Appends, Consumes, IsAtEnd};
 ghost use Rattle.streams.specs.Said.{unread};
-ghost use Rattle.streams.specs.Got.{Within, Comes, EndsAtNone, EndsUnlessFull};
+ghost use Rattle.text_refusals.specs.Complaint.{complaint};
+ghost use Rattle.streams.specs.Got.{Within, Comes, EndsUnlessFull};
 
+use script::Refusal;
+use std::io;
 use std::io::{Read, Write};
+use text_refusals::complain;
 
-// How many bytes came, or that a read failed.
-#[derive(Clone, Copy)]
-pub enum Got {
-    Bytes(usize),
-    Failed,
-}
-
-// One read into what stands behind the first bytes of a buffer.
-fn read_more<R: Read>(input: &mut R, buf: &mut [u8], done: usize) -> Got
-    requires { done ≤ length buf.old }
-    ensures room { Within result (length buf.old - done) }
-    ensures front { take done buf.new ≡ take done buf.old }
-    ensures came { Comes result (R.remaining input.old) (R.remaining input.new) (drop done buf.new) }
-    ensures end { EndsAtNone result (length buf.old - done) (R.remaining input.new) }
-{
-    match input.read(&mut buf[done..]) {
-        Ok(k) => Got::Bytes(k),
-        Err(_) => Got::Failed,
-    }
-}
-
-// An input into a buffer, until it is full or the input ends.
-pub fn read_input<R: Read>(input: &mut R, buf: &mut [u8]) -> Got
+// An input into a buffer, until it is full or the input ends; how many bytes came. A read may bring any number of bytes, so this
+// is a `while`.
+pub fn read_input<R: Read>(input: &mut R, buf: &mut [u8]) -> io::Result<usize>
     ensures room { Within result (length buf.old) }
     ensures came { Comes result (R.remaining input.old) (R.remaining input.new) buf.new }
     ensures end { EndsUnlessFull result (length buf.old) (R.remaining input.new) }
 {
     let mut done = 0;
     while done < buf.len() {
-        let Got::Bytes(k) = read_more(input, buf, done) else {
-            return Got::Failed;
-        };
+        let k = input.read(&mut buf[done..])?;
         if k == 0 {
-            return Got::Bytes(done);
+            return Ok(done);
         }
         done += k;
     }
-    Got::Bytes(done)
+    Ok(done)
 }
 
 // The name of a program and some words to standard error; whether all was written.
@@ -67,6 +49,42 @@ pub fn say_unread<E: Write>(err: &mut E, name: &[u8]) -> bool
     say(err, name, b": cannot read standard input\n")
 }
 
+// An input read whole into a buffer, by a program of this name: the bytes that came. Where it cannot be read, that is said.
+pub fn read_or_say<'a, R: Read, E: Write>(
+    input: &mut R,
+    err: &mut E,
+    name: &[u8],
+    buf: &'a mut [u8],
+) -> Option<&'a [u8]>
+    ensures room { IfSome result (λ bytes. length bytes.now ≤ length buf.old) }
+    ensures came { IfSome result (λ bytes. Consumes (R.remaining input.old) (R.remaining input.new) bytes.now) }
+    ensures end { IfSome result (λ bytes. length bytes.now < length buf.old → IsAtEnd (R.remaining input.new)) }
+    ensures silent { IsSome result → err.new ≡ err.old }
+{
+    match read_input(input, buf) {
+        Ok(n) => Some(&buf[..n]),
+        Err(_) => {
+            say_unread(err, name);
+            None
+        }
+    }
+}
+
+// What a program of this name says of a file that it refuses; whether it was said. In one write, but for a name of more than 32
+// bytes, which goes before the rest.
+pub fn say_refused<E: Write>(err: &mut E, name: &[u8], why: Refusal) -> bool
+    ensures name_value { name.now ≡ name.now }
+    ensures said { result ≡ true → Appends (E.contents err.old) (E.contents err.new) (complaint name.now why) }
+{
+    let mut line = [0; 160];
+    if 32 < name.len() {
+        let n = complain(&mut line, 0, b"", why);
+        return say(err, name, &line[..n]);
+    }
+    let n = complain(&mut line, 0, name, why);
+    err.write_all(&line[..n]).is_ok()
+}
+
 // Bytes to the output, by a program of this name; whether they were written. Where they were not, that is said.
 pub fn print<W: Write, E: Write>(out: &mut W, err: &mut E, name: &[u8], bytes: &[u8]) -> bool
     ensures name_value { name.now ≡ name.now }
@@ -79,4 +97,25 @@ pub fn print<W: Write, E: Write>(out: &mut W, err: &mut E, name: &[u8], bytes: &
     }
     say(err, name, b": cannot write standard output\n");
     false
+}
+
+// The text of so many bytes that a program of this name made of a file, or why it refuses the file: the text goes to the output,
+// the refusal to standard error. Whether all was written.
+pub fn answer<W: Write, E: Write>(
+    out: &mut W,
+    err: &mut E,
+    name: &[u8],
+    text: &[u8],
+    made: Result<usize, Refusal>,
+) -> bool
+    ensures printed { IfOk made (λ n. result ≡ true → Appends (W.contents out.old) (W.contents out.new) (take n text.now)) }
+    ensures silent { IsOk made → result ≡ true → err.new ≡ err.old }
+    ensures refused { IfErr made (λ why. result ≡ true →
+        Appends (E.contents err.old) (E.contents err.new) (complaint name.now why)) }
+    ensures kept { IsErr made → out.new ≡ out.old }
+{
+    match made {
+        Ok(n) => print(out, err, name, &text[..n.min(text.len())]),
+        Err(why) => say_refused(err, name, why),
+    }
 }

@@ -1,35 +1,19 @@
--- Bytes put one behind the other: what is promised where there is room, and where there is none; the loop that copies; how long
--- the texts of this crate are.
-use Prim.Native.Nat.{ℕ, ◌+◌, ◌-◌, ◌≤◌, ◌<◌}
+-- Bytes put one behind the other: what is promised where there is room, and where there is none; how long the texts of this
+-- crate are.
+use Prim.Native.Nat.{ℕ, ◌+◌, ◌≤◌, ◌<◌}
 use native.Mathlib.Omega.{arith}
-use native.Mathlib.Numerals.{add-one}
-use mathlib.Core.Bool.{Bool, true, false}
-use mathlib.Core.Path.{refl, ◌≡◌, sym, ap, ◌∙◌}
+use mathlib.Core.Path.{◌≡◌, ◌∙◌}
 use mathlib.Core.List.{List, ◌++◌}
-use lib.Dec.{leb}
-use lib.ListN.{length, get_or, set, length-append}
-use lib.Seq.{paste, paste-suc}
-use borrow.Author.Tests.{le-leb, lt-leb, leb-true, leb-false}
+use lib.ListN.{length, length-append}
+use borrow.Author.Tests.{le-leb, lt-leb}
 use Rattle.lists.specs.Put.{Added}
-use Rattle.lists.proofs.Put.{paste_put, added_length, added_append}
+use Rattle.lists.proofs.Put.{added_length, added_append}
 use Rattle.text.specs.Digits.{decimal}
 use Rattle.text.specs.Refused.{refused, placed}
 use Rattle.text.proofs.DigitLaws.{decimal_most}
 use Rattle.text.specs.Adding.{AddedIn, with_added_in, behind_in}
 
 -- ---- room
--- what the answer to "is there room" says of numbers
-pub room-told : (b : Bool) (m n : ℕ) → b ≡ leb m n → (b ≡ true → m ≤ n) × (b ≡ false → n < m)
-room-told b m n e = (λ t. leb-true m n (sym e ∙ t), λ f. leb-false m n (sym e ∙ f))
-
--- what is left of a size behind the bytes
-pub room-left : (size at first more : ℕ) → first ≤ size → more ≤ size - first → leb at (size - first - more) ≡ leb (at + (first + more)) size
-room-left size at first more h k = go (leb at (size - first - more)) refl
-  where
-    go : (b : Bool) → leb at (size - first - more) ≡ b → b ≡ leb (at + (first + more)) size
-    go true e = let w : at ≤ size - first - more = leb-true _ _ e in sym (le-leb (at + (first + more)) size (omega arith))
-    go false e = let w : size - first - more < at = leb-false _ _ e in sym (lt-leb (at + (first + more)) size (omega arith))
-
 module _ (room : ℕ) (o : List ℕ) (at : ℕ) (x : List ℕ) where
   pub none_in : length o < at + room → AddedIn room o at x o at
   unfolding with_added_in behind_in
@@ -51,16 +35,7 @@ module _ (room : ℕ) (o : List ℕ) (at : ℕ) (x : List ℕ) where
     here = λ k. a;
   }
 
--- ---- bytes put behind others
-pub paste_more : (o b : List ℕ) (at i : ℕ) {o₁ : List ℕ} → o₁ ≡ paste o at b i → at + i < length o → i < length b
-    → set o₁ (at + i) (get_or b i 0) ≡ paste o at b (i + 1)
-paste_more o b at i e h k = rw (add-one, e) (paste-suc o at b i 0 h k)
-
--- a loop that has copied every byte
-pub added_all : (o b : List ℕ) (at i : ℕ) {o₁ : List ℕ} → o₁ ≡ paste o at b i → length b ≡ i → Added o at b o₁ (at + i)
-added_all o b at i e k = record { now = e ∙ paste_put o at b i k; next = ap (◌+◌ at) (sym k) }
-
--- bytes behind others, where there is room for the longest
+-- ---- bytes behind others, where there is room for the longest
 pub then_in : (room : ℕ) {o : List ℕ} {at : ℕ} {x : List ℕ} {o₁ : List ℕ} {e₁ : ℕ} {y : List ℕ} {o₂ : List ℕ} {e₂ : ℕ} → Added o at x o₁ e₁
     → AddedIn room o₁ e₁ y o₂ e₂ → e₁ + room ≤ length o → Added o at (x ++ y) o₂ e₂
 then_in room {o} {at} {x} {o₁} {e₁} {y} {o₂} {e₂} s t h =

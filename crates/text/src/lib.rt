@@ -1,9 +1,12 @@
 // Text that a program prints, as bytes in ASCII: capital hexadecimal digits, numbers in decimal, and bytes put one behind the
-// other into a lent output. The definitions are specs/Digits, specs/Refused and specs/Adding.
+// other into a lent output. The definitions are specs/Digits, specs/Refused and specs/Adding. Here and in the crates above an
+// output and the place of the next byte are two parameters: there is no heap to put a String on, the clauses of the public
+// functions (`AddedIn`) speak of that pair, and a struct of both would ask for each of these functions a second time.
 #![tactic(auto)]
 
-ghost use Rattle.std.specs.Prelude.{◌≡◌, ◌+◌, ◌≤◌, ◌<◌, true, false, leb, length};
-ghost use Rattle.text.specs.Digits.{last_digit, decimal_in, decimal};
+ghost use Rattle.std.specs.Prelude.{◌≡◌, ◌+◌, ◌≤◌, ◌<◌, ◌++◌, true, false, leb, length};
+ghost use Rattle.text.specs.Digits.{last_digit, byte_digits, decimal_in, decimal};
+ghost use Rattle.text.specs.Ascii.{ascii};
 ghost use Rattle.text.specs.Refused.{refused, placed};
 ghost use Rattle.lists.specs.Put.{Added};
 ghost use Rattle.text.specs.Adding.{AddedIn};
@@ -35,15 +38,13 @@ fn copy(out: &mut [u8], at: usize, bytes: &[u8]) -> usize
     requires { at + length bytes.now ≤ length out.old }
     ensures { Added out.old at bytes.now out.new result }
 {
-    let mut i = 0;
-    while i < bytes.len() {
-        out[at + i] = bytes[i];
-        i += 1;
-    }
-    at + i
+    let end = at + bytes.len();
+    out[at..end].copy_from_slice(bytes);
+    end
 }
 
-// Bytes behind those that stand in an output, if there is room for all of them; where the next one goes.
+// Bytes behind those that stand in an output, if there is room for all of them; where the next one goes. Each function that adds
+// asks for its room by itself: a closure that puts would need its bytes as a ghost value beside it, which is no plainer.
 pub fn add(out: &mut [u8], at: usize, bytes: &[u8]) -> usize
     ensures { AddedIn (length bytes.now) out.old at bytes.now out.new result }
 {
@@ -51,6 +52,14 @@ pub fn add(out: &mut [u8], at: usize, bytes: &[u8]) -> usize
         return copy(out, at, bytes);
     }
     at
+}
+
+// A space and a byte's two digits, if there is room for them; where the next byte goes.
+pub fn add_byte(out: &mut [u8], at: usize, value: u8) -> usize
+    ensures { AddedIn 3 out.old at (ascii " " ++ byte_digits value) out.new result }
+{
+    let v = u16::from(value);
+    add(out, at, &[b' ', digit(v / 16), digit(v)])
 }
 
 // A number in decimal, in at most so many places, behind what stands in an output with room for so many.

@@ -8,12 +8,12 @@ ghost use Rattle.chip.specs.State.{named};
 ghost use Rattle.chip.specs.View.{view};
 ghost use Rattle.lists.specs.Put.{Added};
 ghost use Rattle.text.specs.Adding.{AddedIn};
-ghost use Rattle.text_changes.specs.Changes.{register_line, register_change, indexes, registers_to, groups_to, colour_line, colour_change, colours_to, changed};
+ghost use Rattle.text_steps.specs.Written.{byte_text};
+ghost use Rattle.text_changes.specs.Changes.{register_line, register_change, indexes, registers_to, groups_to, colour_digits, colour_line, colour_change, colours_to, changed};
 
-use chip::palette::is_same;
 use chip::{Chip, Rgb};
 use chip_registers::group_at;
-use text::{add, digit, has_room};
+use text::{add, add_byte, digit, has_room};
 use text_steps::add_name;
 
 // The line of a register.
@@ -21,19 +21,10 @@ fn put_line(out: &mut [u8], at: usize, g: u8, i: u8, old: u8, new: u8) -> usize
     requires { at + 14 ≤ length out.old }
     ensures { Added out.old at (register_line g i old new) out.new result }
 {
-    let end = add_name(out, at, g, i);
-    let a = old as u16;
-    let b = new as u16;
-    let text = [
-        b' ',
-        digit(a / 16),
-        digit(a),
-        b' ',
-        digit(b / 16),
-        digit(b),
-        b'\n',
-    ];
-    add(out, end, &text)
+    let name = add_name(out, at, g, i);
+    let middle = add_byte(out, name, old);
+    let end = add_byte(out, middle, new);
+    add(out, end, b"\n")
 }
 
 // The line of a register, if its bytes differ.
@@ -47,7 +38,8 @@ fn put_register(out: &mut [u8], at: usize, g: u8, i: u8, old: u8, new: u8) -> us
     put_line(out, at, g, i, old, new)
 }
 
-// How many registers a group's number has an index for.
+// How many registers a group's number has an index for. Groups go by number here as in specs/Changes and at add_name; 6 is MSR
+// and 7 PALMASK.
 fn index_count(g: u8) -> u16
     ensures { (result ≡ indexes g) × (result ≤ 256) }
 {
@@ -62,13 +54,11 @@ fn put_registers(before: Chip, after: Chip, g: u8, out: &mut [u8], from: usize) 
     let group = group_at(g);
     let n = index_count(g);
     let mut at = from;
-    let mut k: u16 = 0;
-    while k < n {
+    for k in 0..n {
         let i = k as u8;
         let old = before.get(group, i);
         let new = after.get(group, i);
         at = put_register(out, at, g, i, old, new);
-        k += 1;
     }
     at
 }
@@ -79,12 +69,31 @@ fn put_groups(before: Chip, after: Chip, out: &mut [u8], from: usize) -> usize
     ensures { Added out.old from (groups_to (named (view before)) (named (view after)) 9) out.new result }
 {
     let mut at = from;
-    let mut g: u8 = 0;
-    while g < 9 {
+    for g in 0..9 {
         at = put_registers(before, after, g, out, at);
-        g += 1;
     }
     at
+}
+
+// A space and the digits of a colour's three bytes.
+fn put_bytes(out: &mut [u8], at: usize, c: Rgb) -> usize
+    requires { at + 7 ≤ length out.old }
+    ensures { Added out.old at (colour_digits c) out.new result }
+{
+    let [r, g, b] = [c.red, c.green, c.blue].map(u16::from);
+    add(
+        out,
+        at,
+        &[
+            b' ',
+            digit(r / 16),
+            digit(r),
+            digit(g / 16),
+            digit(g),
+            digit(b / 16),
+            digit(b),
+        ],
+    )
 }
 
 // The line of a palette entry.
@@ -92,40 +101,11 @@ fn put_entry(out: &mut [u8], at: usize, e: u8, old: Rgb, new: Rgb) -> usize
     requires { at + 24 ≤ length out.old }
     ensures { Added out.old at (colour_line e old new) out.new result }
 {
-    let k = e as u16;
-    let r = old.red as u16;
-    let g = old.green as u16;
-    let b = old.blue as u16;
-    let x = new.red as u16;
-    let y = new.green as u16;
-    let z = new.blue as u16;
-    let text = [
-        b'C',
-        b'O',
-        b'L',
-        b'O',
-        b'U',
-        b'R',
-        b' ',
-        digit(k / 16),
-        digit(k),
-        b' ',
-        digit(r / 16),
-        digit(r),
-        digit(g / 16),
-        digit(g),
-        digit(b / 16),
-        digit(b),
-        b' ',
-        digit(x / 16),
-        digit(x),
-        digit(y / 16),
-        digit(y),
-        digit(z / 16),
-        digit(z),
-        b'\n',
-    ];
-    add(out, at, &text)
+    let word = add(out, at, b"COLOUR");
+    let number = add_byte(out, word, e);
+    let middle = put_bytes(out, number, old);
+    let end = put_bytes(out, middle, new);
+    add(out, end, b"\n")
 }
 
 // The line of a palette entry, if it differs.
@@ -133,7 +113,7 @@ fn put_colour(out: &mut [u8], at: usize, e: u8, old: Rgb, new: Rgb) -> usize
     requires { at + 24 ≤ length out.old }
     ensures { Added out.old at (colour_change e old new) out.new result }
 {
-    if is_same(old, new) {
+    if old == new {
         return at;
     }
     put_entry(out, at, e, old, new)
@@ -145,13 +125,11 @@ fn put_colours(before: Chip, after: Chip, out: &mut [u8], from: usize) -> usize
     ensures { Added out.old from (colours_to (named (view before)) (named (view after)) 256) out.new result }
 {
     let mut at = from;
-    let mut k: u16 = 0;
-    while k < 256 {
+    for k in 0u16..256 {
         let e = k as u8;
         let old = before.entry(e);
         let new = after.entry(e);
         at = put_colour(out, at, e, old, new);
-        k += 1;
     }
     at
 }

@@ -17,7 +17,6 @@ use Rattle.chip.specs.State.{Chip, named, with_indexes, with_index}
 use Rattle.chip.specs.Names.{locked, received, picks3_dx}
 use Rattle.chip.specs.Access.{Wrote, untold, write_to, port_written}
 use Rattle.chip.specs.Reset.{reset_byte, reset}
-use Rattle.chip.specs.declared.access.Answer.TheVariants.{Done}
 use Rattle.chip.proofs.AccessLaws.{write_open}
 use Rattle.script_steps.specs.Step.{names, legal, idle, judged, shaped, step_of}
 use Rattle.script.specs.Block.{word_sum, content_legal, block_legal}
@@ -38,6 +37,7 @@ use Rattle.text_changes.specs.Changes.{register_line}
 use Rattle.text_listing.proofs.Cases.{file_13}
 use Rattle.text_effects.specs.Effects.{behind, effects_of, text}
 use Rattle.text_effects.proofs.EffectLaws.{data_behind, index_behind_not}
+use Rattle.std.specs.Prelude.{Ok}
 
 -- the file's two commands
 commands_13 : commands_to file_13 (step_count file_13) ≡ Out 0x3D6 0x60 ∷ Out 0x3D7 0x43 ∷ []
@@ -57,7 +57,7 @@ to_data = refl
 abbrev aimed : Chip
 aimed = with_indexes fresh (with_index Xr fresh.indexes 0x60)
 
-first-wrote : port_written fresh 0x3D6 0x60 ≡ untold Done aimed
+first-wrote : port_written fresh 0x3D6 0x60 ≡ untold (Ok tt) aimed
 first-wrote = write_open fresh 0x3D6 fresh_open 0x60 ∙ ap (λ t. write_to t fresh 0x60) to_index
 
 second-wrote : port_written aimed 0x3D7 0x43 ≡ write_to (Data Xr) aimed 0x43

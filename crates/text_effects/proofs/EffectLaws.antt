@@ -16,14 +16,13 @@ use Rattle.chip_ports.specs.Ports.{target}
 use Rattle.chip_ports.specs.declared.Target.{Target}
 use Rattle.chip_ports.specs.declared.Target.TheVariants.{Index, Data, ReadIndex, WriteIndex, Paldata, Attribute}
 use Rattle.chip.specs.State.{Chip, Named, named, index_byte, index_of}
-use Rattle.chip.specs.Names.{register, received, ports_open, picks3_dx}
+use Rattle.chip.specs.Names.{received, ports_open, picks3_dx}
 use Rattle.chip.specs.Palette.{entry, coloured, loaded}
 use Rattle.chip.specs.Attribute.{attribute_aimed, attribute_set}
 use Rattle.chip.specs.declared.Rgb.{Rgb}
 use Rattle.chip.specs.declared.Loading.{Loading}
 use Rattle.chip.specs.Access.{Wrote, untold, told as handed, write_to, port_written, port_read}
 use Rattle.chip.specs.Differ.{same_colour, differ}
-use Rattle.chip.specs.declared.access.Answer.TheVariants.{Done}
 use Rattle.chip.proofs.AccessLaws.{write_open}
 use Rattle.chip.proofs.DifferLaws.{colour_self, colour_same, unmoved, reached_differs, paldata_differs, aimed_differs_not, read_differs_not}
 use Rattle.script.specs.File.{step_count}
@@ -31,10 +30,6 @@ use Rattle.script.specs.declared.Refusal.TheVariants.{Room}
 use Rattle.script_commands.specs.Command.{bytes_of_all}
 use Rattle.script_commands.specs.Translation.{commands_to, translated}
 use Rattle.script_commands.specs.declared.Command.TheVariants.{Out, In, Merge, OutAcc}
-use Rattle.script_commands.specs.declared.CommandRead.{CommandRead}
-use Rattle.script_commands.specs.declared.CommandRead.TheVariants.{Known, Unknown}
-use Rattle.script_commands.specs.declared.Translated.{Translated}
-use Rattle.script_commands.specs.declared.Translated.TheVariants.{Commands, Refused as NotTranslated}
 use Rattle.script_commands.proofs.Codec.{length-bytes}
 use Rattle.chip_run.specs.Run.{one, done, reads}
 use Rattle.chip_run.proofs.RunLaws.{length-reads}
@@ -46,7 +41,9 @@ use Rattle.text_changes.proofs.Telling.{changed-none}
 use Rattle.text_listing.proofs.Adding.{words_most}
 use Rattle.text_listing.proofs.Listing.{translated_few}
 use Rattle.text_effects.specs.Effects.{words_read, behind, effects_of, text, wanted, told_by, told}
-use Rattle.text_effects.specs.declared.Told.TheVariants.{Text, Refused}
+use Rattle.std.specs.Prelude.{Result, Option, Ok, Err, Some, None}
+use Rattle.script_commands.specs.declared.Command.{Command}
+use Rattle.script.specs.declared.Refusal.{Refusal}
 
 -- ---- by whether something differs
 pub behind_other : (c d : Chip) → differ c d ≡ true → behind c d ≡ ascii "   " ++ changed (named c) (named d)
@@ -165,7 +162,7 @@ module _ (c : Chip) (p v : ℕ) (free : ports_open (named c) ≡ true) where
   pub attribute_index_behind_not : target (picks3_dx (named c)) true p ≡ Attribute → c.indexes.turn ≡ false
       → behind c (port_written c p v).chip ≡ ascii "\n"
   attribute_index_behind_not leads turn =
-      let e : port_written c p v ≡ untold Done (attribute_aimed c v) = to leads ∙ rw turn refl in
+      let e : port_written c p v ≡ untold (Ok tt) (attribute_aimed c v) = to leads ∙ rw turn refl in
       rw e (behind-same c (attribute_aimed c v) (aimed_differs_not c v))
 
 -- a read
@@ -173,19 +170,19 @@ pub read_behind_not : (c : Chip) (p : ℕ) → behind c (port_read c p).chip ≡
 read_behind_not c p = behind-same c (port_read c p).chip (read_differs_not c p)
 
 -- ---- a line has at most 38 bytes
-changed_few : (c : Chip) (acc : ℕ) (r : CommandRead) → length (changed (named c) (named (one c acc r).chip)) ≤ 24
+changed_few : (c : Chip) (acc : ℕ) (r : Option Command) → length (changed (named c) (named (one c acc r).chip)) ≤ 24
 unfolding one done
-changed_few c acc (Known (Out p v)) = written-line c p v
-changed_few c acc (Known (In p)) = rw (read-line c p) (omega arith)
-changed_few c acc (Known (Merge keep set)) = rw (changed-none (named c)) (omega arith)
-changed_few c acc (Known (OutAcc p)) = written-line c p acc
-changed_few c acc Unknown = rw (changed-none (named c)) (omega arith)
+changed_few c acc (Some (Out p v)) = written-line c p v
+changed_few c acc (Some (In p)) = rw (read-line c p) (omega arith)
+changed_few c acc (Some (Merge keep set)) = rw (changed-none (named c)) (omega arith)
+changed_few c acc (Some (OutAcc p)) = written-line c p acc
+changed_few c acc None = rw (changed-none (named c)) (omega arith)
 
-pub words_read_most : (r : CommandRead) → length (words_read r) ≤ 11
-words_read_most (Known x) = words_most x
-words_read_most Unknown = omega arith
+pub words_read_most : (r : Option Command) → length (words_read r) ≤ 11
+words_read_most (Some x) = words_most x
+words_read_most None = omega arith
 
-pub behind_most : (c : Chip) (acc : ℕ) (r : CommandRead) → length (behind c (one c acc r).chip) ≤ 27
+pub behind_most : (c : Chip) (acc : ℕ) (r : Option Command) → length (behind c (one c acc r).chip) ≤ 27
 unfolding behind
 behind_most c acc r = go (differ c (one c acc r).chip)
   where
@@ -196,12 +193,12 @@ behind_most c acc r = go (differ c (one c acc r).chip)
     go true = omega (arith, changed_few c acc r)
     go false = omega arith
 
-pub line_most : (c : Chip) (acc : ℕ) (r : CommandRead) → length (words_read r ++ behind c (one c acc r).chip) ≤ 38
+pub line_most : (c : Chip) (acc : ℕ) (r : Option Command) → length (words_read r ++ behind c (one c acc r).chip) ≤ 38
 line_most c acc r =
     omega (arith, words_read_most r, behind_most c acc r, length-append (words_read r) (behind c (one c acc r).chip))
 
 -- ---- the text has at most 38 bytes a command
-pub effects_most : (rs : List CommandRead) (c : Chip) (acc : ℕ) → length (effects_of c acc rs) ≤ 38 * length rs
+pub effects_most : (rs : List (Option Command)) (c : Chip) (acc : ℕ) → length (effects_of c acc rs) ≤ 38 * length rs
 unfolding effects_of
 effects_most [] c acc = omega arith
 effects_most (r ∷ rs) c acc =
@@ -209,31 +206,31 @@ effects_most (r ∷ rs) c acc =
     let rest : length (effects_of d.chip d.acc rs) ≤ 38 * length rs = effects_most rs d.chip d.acc in
     omega (arith, line_most c acc r, length-append (words_read r ++ behind c d.chip) (effects_of d.chip d.acc rs))
 
-pub text_most : (f : List ℕ) (work k : ℕ) → translated f work ≡ Commands k → length (text f) ≤ 38 * k
+pub text_most : (f : List ℕ) (work k : ℕ) → translated f work ≡ Ok k → length (text f) ≤ 38 * k
 text_most f work k is =
     let bytes : List ℕ = bytes_of_all (commands_to f (step_count f)) in
     omega (arith, (translated_few f work k is).count, length-bytes (commands_to f (step_count f)), length-reads bytes, effects_most (reads bytes) fresh 0)
 
 -- the text lies within its buffer
-pub told-within : (f : List ℕ) (work room n : ℕ) → told f work room ≡ Text n → n ≤ room
+pub told-within : (f : List ℕ) (work room n : ℕ) → told f work room ≡ Ok n → n ≤ room
 unfolding told
 told-within f work room n is = go (translated f work) refl is
   where
-    within : (k : ℕ) → translated f work ≡ Commands k → (b : Bool) → ltb room (wanted k) ≡ b
-        → cond b (Refused Room) (Text (length (text f))) ≡ Text n → n ≤ room
+    within : (k : ℕ) → translated f work ≡ Ok k → (b : Bool) → ltb room (wanted k) ≡ b
+        → cond b (Err Room) (Ok (length (text f))) ≡ Ok n → n ≤ room
     within k t true e is = let z : ◌≡◌ {A = ℕ} 0 1 = cc in absurd (omega arith)
     within k t false e is =
         let same : length (text f) ≡ n = cc in
         let enough : wanted k ≤ room = ltb-false _ _ e in
         omega (arith, text_most f work k t)
 
-    go : (t : Translated) → translated f work ≡ t → told_by t f room ≡ Text n → n ≤ room
-    go (Commands k) e is = within k e (ltb room (wanted k)) refl is
-    go (NotTranslated why) e is = let z : ◌≡◌ {A = ℕ} 0 1 = cc in absurd (omega arith)
+    go : (t : Result ℕ Refusal) → translated f work ≡ t → told_by t f room ≡ Ok n → n ≤ room
+    go (Ok k) e is = within k e (ltb room (wanted k)) refl is
+    go (Err why) e is = let z : ◌≡◌ {A = ℕ} 0 1 = cc in absurd (omega arith)
 
 -- 8,064 commands, the most of any file, want 344,832 bytes
 pub wanted_most : (k : ℕ) → k ≤ 8064 → wanted k ≤ 344832
 wanted_most k h = omega arith
 
-pub file_wanted_most : (f : List ℕ) (work k : ℕ) → translated f work ≡ Commands k → wanted k ≤ 344832
+pub file_wanted_most : (f : List ℕ) (work k : ℕ) → translated f work ≡ Ok k → wanted k ≤ 344832
 file_wanted_most f work k is = wanted_most k (translated_few f work k is).few

@@ -19,8 +19,6 @@ use Rattle.chip.specs.declared.Rgb.{Rgb}
 use Rattle.chip.proofs.AccessLaws.{named-written}
 use Rattle.chip.proofs.DifferLaws.{same-stored}
 use Rattle.script_commands.specs.declared.Command.TheVariants.{Out, In, Merge, OutAcc}
-use Rattle.script_commands.specs.declared.CommandRead.{CommandRead}
-use Rattle.script_commands.specs.declared.CommandRead.TheVariants.{Known, Unknown}
 use Rattle.chip_run.specs.Run.{one, done}
 use Rattle.text.specs.Ascii.{ascii}
 use Rattle.text_steps.specs.Written.{name_text, byte_text}
@@ -28,6 +26,8 @@ use Rattle.text_changes.specs.Changes.{register_line, register_change, indexes, 
 use Rattle.text_changes.proofs.One.{kept-index, changed-received, changed-coloured, changed_outside, changed_picture, read-line}
 use Rattle.text_changes.proofs.Telling.{registers_same, colours_same, changed-none}
 use Rattle.text_effects.specs.Effects.{words_read, behind}
+use Rattle.std.specs.Prelude.{Option, Some, None}
+use Rattle.script_commands.specs.declared.Command.{Command}
 
 -- bytes that end with a line feed
 pub record Line (l : List ℕ) : Type 0 where
@@ -86,16 +86,16 @@ written-ends c p v =
     λ some. rw e (register-ends (number_of g) (index_of g c.indexes) _ _ (rw e at some)))
     (coloured-ends (named c)) (λ lit some. absurd (some (changed_picture (named c) lit))) p
 
-changed-ends : (c : Chip) (acc : ℕ) (r : CommandRead) → (changed (named c) (named (one c acc r).chip) ≡ [] → ⊥)
+changed-ends : (c : Chip) (acc : ℕ) (r : Option Command) → (changed (named c) (named (one c acc r).chip) ≡ [] → ⊥)
     → Line (changed (named c) (named (one c acc r).chip))
 unfolding one done
-changed-ends c acc (Known (Out p v)) some = written-ends c p v some
-changed-ends c acc (Known (In p)) some = absurd (some (read-line c p))
-changed-ends c acc (Known (Merge keep set)) some = absurd (some (changed-none (named c)))
-changed-ends c acc (Known (OutAcc p)) some = written-ends c p acc some
-changed-ends c acc Unknown some = absurd (some (changed-none (named c)))
+changed-ends c acc (Some (Out p v)) some = written-ends c p v some
+changed-ends c acc (Some (In p)) some = absurd (some (read-line c p))
+changed-ends c acc (Some (Merge keep set)) some = absurd (some (changed-none (named c)))
+changed-ends c acc (Some (OutAcc p)) some = written-ends c p acc some
+changed-ends c acc None some = absurd (some (changed-none (named c)))
 
-pub line-ends : (c : Chip) (acc : ℕ) (r : CommandRead) → Line (words_read r ++ behind c (one c acc r).chip)
+pub line-ends : (c : Chip) (acc : ℕ) (r : Option Command) → Line (words_read r ++ behind c (one c acc r).chip)
 unfolding behind
 line-ends c acc r = line-behind (words_read r) (go (differ c d) refl)
   where

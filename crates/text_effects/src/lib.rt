@@ -15,33 +15,26 @@ ghost use Rattle.text_effects.specs.Effects.{words_read, behind, effects_of, tol
 use chip::Chip;
 use chip_run::command;
 use script::Refusal;
-use script_commands::{CommandRead, Translated, command_of, translate};
+use script_commands::{Command, command_of, translate};
 use text::add;
 use text_changes::tell_changes;
 use text_listing::add_words;
 
-// What telling a script's effects answers: how many bytes of text there are, or the refusal.
-#[derive(Clone, Copy)]
-pub enum Told {
-    Text(usize),
-    Refused(Refusal),
-}
-
-// The words of what four bytes were read as.
-fn put_words(c: CommandRead, out: &mut [u8], at: usize) -> usize
+// The words of what four bytes were read as: a match, since `words_read` has a line for each case.
+fn put_words(c: Option<Command>, out: &mut [u8], at: usize) -> usize
     requires { at + 11 ≤ length out.old }
     ensures { Added out.old at (words_read c) out.new result }
 {
     match c {
-        CommandRead::Known(x) => add_words(out, at, x),
-        CommandRead::Unknown => at,
+        Some(x) => add_words(out, at, x),
+        None => at,
     }
 }
 
 // What a command did, behind its words.
 fn put_behind(before: Chip, after: Chip, changed: bool, out: &mut [u8], at: usize) -> usize
-    requires at_in_bounds { at + 38403 ≤ length out.old }
-    requires changed_value { changed ≡ differ (view before) (view after) }
+    requires room { at + 38403 ≤ length out.old }
+    requires told { changed ≡ differ (view before) (view after) }
     ensures { Added out.old at (behind (view before) (view after)) out.new result }
 {
     if changed {
@@ -56,42 +49,29 @@ fn put_effects(bytes: &[u8], out: &mut [u8]) -> usize
     requires { (length bytes.now % 4 ≡ 0) × (38400 + 38 * (length bytes.now / 4) ≤ length out.old) }
     ensures { Added out.old 0 (effects_of fresh 0 (reads bytes.now)) out.new result }
 {
-    let size = bytes.len();
     let mut chip = Chip::new(0xFF, 0xFF);
     let mut acc: u8 = 0;
     let mut at: usize = 0;
-    let mut from: usize = 0;
-    while from < size {
-        let a = bytes[from];
-        let b = bytes[from + 1];
-        let c = bytes[from + 2];
-        let d = bytes[from + 3];
-        let did = command(chip, acc, a, b, c, d);
-        let end = put_words(command_of(a, b, c, d), out, at);
-        let next = did.chip;
-        at = put_behind(chip, next, did.changed, out, end);
-        chip = next;
+    for four in bytes.chunks_exact(4) {
+        let did = command(chip, acc, four[0], four[1], four[2], four[3]);
+        let end = put_words(command_of(four[0], four[1], four[2], four[3]), out, at);
+        at = put_behind(chip, did.chip, did.changed, out, end);
+        chip = did.chip;
         acc = did.acc;
-        from += 4;
     }
     at
 }
 
 // A script file's effects, as text in `out`, which wants 38,400 bytes and 38 for each command. The other buffer is lent for
 // the commands, 32 bytes a step.
-pub fn tell(file: &[u8], work: &mut [u8], out: &mut [u8]) -> Told
+pub fn tell(file: &[u8], work: &mut [u8], out: &mut [u8]) -> Result<usize, Refusal>
     ensures value { result ≡ told file.now (length work.old) (length out.old) }
     ensures out_after { out.new ≡ left file.now (length work.old) out.old }
     ensures work_after { work.new ≡ written_by (translated file.now (length work.old)) file.now work.old }
 {
-    match translate(file, work) {
-        Translated::Refused(why) => Told::Refused(why),
-        Translated::Commands(k) => {
-            if out.len() < 38400 + 38 * k {
-                return Told::Refused(Refusal::Room);
-            }
-            let end = 4 * k;
-            Told::Text(put_effects(&work[..end], out))
-        }
+    let k = translate(file, work)?;
+    if out.len() < 38400 + 38 * k {
+        return Err(Refusal::Room);
     }
+    Ok(put_effects(&work[..4 * k], out))
 }

@@ -16,23 +16,18 @@ use Rattle.script_steps.specs.declared.Step.{Step}
 use Rattle.text_steps.specs.Written.{step_line}
 use Rattle.script.specs.File.{step_count, checked}
 use Rattle.script.specs.Reader.{next_of}
-use Rattle.script.specs.declared.Checked.{Checked}
-use Rattle.script.specs.declared.Checked.TheVariants.{Accepted, Refused as NotAccepted}
 use Rattle.script.specs.declared.Refusal.{Refusal}
 use Rattle.script.specs.declared.Refusal.TheVariants.{Length, Room}
-use Rattle.script.specs.declared.Next.{Next}
-use Rattle.script.specs.declared.Next.TheVariants.{Found, Refused as NoStep, End}
 use Rattle.script.proofs.Checking.{answer_says, check_length, accepted_table, refused_table}
 use Rattle.script.proofs.Counting.{accepted_few, long_refused, start_decides}
 use Rattle.text_steps.proofs.Lengths.{line_most}
 use Rattle.text_from_script.specs.Show.{line_of_next, text_to, text_of, shown_by, shown, left_by, of_shown, shown_table, LinesPut}
-use Rattle.text_from_script.specs.declared.Shown.{Shown}
-use Rattle.text_from_script.specs.declared.Shown.TheVariants.{Text, Refused}
+use Rattle.std.specs.Prelude.{Result, Option, Ok, Err, Some, None}
 
-pub next_most : (x : Next) → length (line_of_next x) ≤ 20
-next_most (Found s) = line_most s
-next_most (NoStep r) = omega arith
-next_most End = omega arith
+pub next_most : (x : Result (Option Step) Refusal) → length (line_of_next x) ≤ 20
+next_most (Ok (Some s)) = line_most s
+next_most (Err r) = omega arith
+next_most (Ok None) = omega arith
 
 pub text_most : (f : List ℕ) (n : ℕ) → length (text_to f n) ≤ 20 * n
 unfolding text_to
@@ -51,55 +46,55 @@ unfolding text_to
 text_next f n = rw (add-one n)
 
 -- the line of one step more
-pub text_step : (f o : List ℕ) (j : ℕ) (s : Step) {o₁ o₂ : List ℕ} {e₁ e₂ : ℕ} → next_of f j ≡ Found s → Added o 0 (text_to f j) o₁ e₁
+pub text_step : (f o : List ℕ) (j : ℕ) (s : Step) {o₁ o₂ : List ℕ} {e₁ e₂ : ℕ} → next_of f j ≡ Ok (Some s) → Added o 0 (text_to f j) o₁ e₁
     → Added o₁ e₁ (step_line s) o₂ e₂ → e₂ ≤ length o → Added o 0 (text_to f (j + 1)) o₂ e₂
 text_step f o j s is added more room = rw (text_next f j, is) (added_append added more room)
 
 -- all of them written: they are counted
-pub lines_put : (f o : List ℕ) (m : ℕ) {o' : List ℕ} {e : ℕ} → Added o 0 (text_to f m) o' e → LinesPut f m o o' (Text e)
-lines_put f o m {o'} {e} a = let n : e ≡ length (text_to f m) = omega arith in record { answer = ap Text n; text = a.now }
+pub lines_put : (f o : List ℕ) (m : ℕ) {o' : List ℕ} {e : ℕ} → Added o 0 (text_to f m) o' e → LinesPut f m o o' (Ok e)
+lines_put f o m {o'} {e} a = let n : e ≡ length (text_to f m) = omega arith in record { answer = ap Ok n; text = a.now }
 
 -- ---- the answers
 -- 20,160 bytes are room for the text of any file
-pub shown-whole : (f : List ℕ) (m room : ℕ) → checked f ≡ Accepted m → 20160 ≤ room → shown f room ≡ Text (length (text_of f))
+pub shown-whole : (f : List ℕ) (m room : ℕ) → checked f ≡ Ok m → 20160 ≤ room → shown f room ≡ Ok (length (text_of f))
 unfolding shown
 shown-whole f m room e h = rw (e, le-ltb room (20 * m) (omega (arith, (accepted_few f m e).1)))
 
 -- reading may stop at 6,145 bytes
-shown_long : (f : List ℕ) (room : ℕ) → 6144 < length f → shown f room ≡ Refused Length
+shown_long : (f : List ℕ) (room : ℕ) → 6144 < length f → shown f room ≡ Err Length
 unfolding shown
 shown_long f room h = rw (check_length f (long_refused f h))
 
 pub shown_start : (f : List ℕ) (room : ℕ) → shown (take 6145 f) room ≡ shown f room
-shown_start f room = start_decides (λ l. shown l room) (Refused Length) (λ l h. shown_long l room h) f
+shown_start f room = start_decides (λ l. shown l room) (Err Length) (λ l h. shown_long l room h) f
 
 -- the text lies within the output
-pub shown-within : (f : List ℕ) (room n : ℕ) → shown f room ≡ Text n → n ≤ room
+pub shown-within : (f : List ℕ) (room n : ℕ) → shown f room ≡ Ok n → n ≤ room
 unfolding shown
 shown-within f room n e = go (checked f) refl e
   where
-    within : (m : ℕ) → checked f ≡ Accepted m → (b : Bool) → ltb room (20 * m) ≡ b → cond b (Refused Room) (Text (length (text_of f))) ≡ Text n → n ≤ room
+    within : (m : ℕ) → checked f ≡ Ok m → (b : Bool) → ltb room (20 * m) ≡ b → cond b (Err Room) (Ok (length (text_of f))) ≡ Ok n → n ≤ room
     within m acc true eb t = absurd (let z : ◌≡◌ {A = ℕ} 0 1 = cc in omega arith)
     within m acc false eb t =
         let same : length (text_of f) ≡ n = cc in
         let count : step_count f ≡ m = (answer_says f acc).count in
         omega (arith, text_most f (step_count f), ltb-false room (20 * m) eb)
 
-    go : (c : Checked) → checked f ≡ c → shown_by c f room ≡ Text n → n ≤ room
-    go (Accepted m) acc t = within m acc (ltb room (20 * m)) refl t
-    go (NotAccepted r) acc t = absurd (let z : ◌≡◌ {A = ℕ} 0 1 = cc in omega arith)
+    go : (c : Result ℕ Refusal) → checked f ≡ c → shown_by c f room ≡ Ok n → n ≤ room
+    go (Ok m) acc t = within m acc (ltb room (20 * m)) refl t
+    go (Err r) acc t = absurd (let z : ◌≡◌ {A = ℕ} 0 1 = cc in omega arith)
 
 module _ (f : List ℕ) (room : ℕ) where
-  pub shown-refused : (r : Refusal) → checked f ≡ NotAccepted r → Refused r ≡ shown f room
+  pub shown-refused : (r : Refusal) → checked f ≡ Err r → Err r ≡ shown f room
   unfolding shown
   shown-refused r e = rw e
 
-  module _ (m : ℕ) (e : checked f ≡ Accepted m) where
-    pub shown_short : room < 20 * m → Refused Room ≡ shown f room
+  module _ (m : ℕ) (e : checked f ≡ Ok m) where
+    pub shown_short : room < 20 * m → Err Room ≡ shown f room
     unfolding shown
     shown_short h = rw (e, lt-ltb _ _ h)
 
-    pub shown-text : 20 * m ≤ room → {out o : List ℕ} {r : Shown} → LinesPut f m out o r → (r ≡ shown f room) × (o ≡ left_by r f out)
+    pub shown-text : 20 * m ≤ room → {out o : List ℕ} {r : Result ℕ Refusal} → LinesPut f m out o r → (r ≡ shown f room) × (o ≡ left_by r f out)
     unfolding shown
     shown-text h {out} {o} {r} a =
         let count : step_count f ≡ m = (answer_says f e).count in
@@ -110,14 +105,13 @@ shown-number : (f : List ℕ) (room : ℕ) → of_shown (shown f room) ≡ shown
 unfolding shown
 shown-number f room = go (checked f) refl
   where
-    go : (r : Checked) → checked f ≡ r → of_shown (shown_by r f room) ≡ shown_table f room
-    go (Accepted m) acc =
+    go : (r : Result ℕ Refusal) → checked f ≡ r → of_shown (shown_by r f room) ≡ shown_table f room
+    go (Ok m) acc =
         let count : step_count f ≡ m = (answer_says f acc).count in
-        of_cond of_shown (ltb room (20 * m)) (Refused Room) (Text (length (text_of f)))
+        of_cond of_shown (ltb room (20 * m)) (Err Room) (Ok (length (text_of f)))
         ∙ ap (λ (n : ℕ). cond (ltb room (20 * n)) (returned 9 0) (returned 0 (length (text_of f)))) (sym count) ∙ sym (accepted_table f m acc _)
-    go (NotAccepted why) acc = sym (refused_table f why acc _)
+    go (Err why) acc = sym (refused_table f why acc _)
 
--- what the contract of `show` says, from the answer and the output
-pub shown-answered : (f o : List ℕ) {r : Shown} {o' : List ℕ} → r ≡ shown f (length o) → o' ≡ left_by r f o
-    → (r ≡ shown f (length o)) × ((o' ≡ left_by r f o) × (of_shown r ≡ shown_table f (length o)))
-shown-answered f o e left = (e, (left, ap of_shown e ∙ shown-number f (length o)))
+-- the number and the value of an answer that is right
+pub shown-told : (f : List ℕ) (room : ℕ) {r : Result ℕ Refusal} → r ≡ shown f room → of_shown r ≡ shown_table f room
+shown-told f room e = ap of_shown e ∙ shown-number f room

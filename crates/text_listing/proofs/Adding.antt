@@ -10,11 +10,10 @@ use lib.Seq.{get_or-append-add}
 use Rattle.script_commands.specs.Command.{bytes_of, command_of, bytes_of_all}
 use Rattle.script_commands.specs.declared.Command.{Command}
 use Rattle.script_commands.specs.declared.Command.TheVariants.{Out, In, Merge, OutAcc}
-use Rattle.script_commands.specs.declared.CommandRead.{CommandRead}
-use Rattle.script_commands.specs.declared.CommandRead.TheVariants.{Known, Unknown}
 use Rattle.script_commands.proofs.Codec.{bytes_read}
 use Rattle.text_listing.specs.Line.{words, line, lines_of}
 use Rattle.text_listing.specs.Adding.{line_read, command_at, lines_to}
+use Rattle.std.specs.Prelude.{Option, Some, None}
 
 -- ---- lines that are read from bytes
 pub words_most : (c : Command) → length (words c) ≤ 11
@@ -29,9 +28,9 @@ line_most (In p) = omega arith
 line_most (Merge k s) = omega arith
 line_most (OutAcc p) = omega arith
 
-pub read_most : (r : CommandRead) → length (line_read r) ≤ 12
-read_most (Known c) = line_most c
-read_most Unknown = omega arith
+pub read_most : (r : Option Command) → length (line_read r) ≤ 12
+read_most (Some c) = line_most c
+read_most None = omega arith
 
 pub lines_most : (bs : List ℕ) (n : ℕ) → length (lines_to bs n) ≤ 12 * n
 unfolding lines_to
@@ -67,11 +66,11 @@ module _ (a b c d : ℕ) (bs : List ℕ) where
   lines_shifted zero = sym (append-nil _)
   lines_shifted (suc n) =
       ap (λ (l : List ℕ). l ++ line_read (command_at (a ∷ b ∷ c ∷ d ∷ bs) (4 * suc n))) (lines_shifted n)
-      ∙ ap (λ (r : CommandRead). (line_read (command_of a b c d) ++ lines_to bs n) ++ line_read r) (at_shifted n)
+      ∙ ap (λ (r : Option Command). (line_read (command_of a b c d) ++ lines_to bs n) ++ line_read r) (at_shifted n)
       ∙ append_assoc (line_read (command_of a b c d)) (lines_to bs n) _
 
-  lines_known : (x : Command) → command_of a b c d ≡ Known x → (n : ℕ) → lines_to (a ∷ b ∷ c ∷ d ∷ bs) (suc n) ≡ line x ++ lines_to bs n
-  lines_known x e n = lines_shifted n ∙ ap (λ (r : CommandRead). line_read r ++ lines_to bs n) e
+  lines_known : (x : Command) → command_of a b c d ≡ Some x → (n : ℕ) → lines_to (a ∷ b ∷ c ∷ d ∷ bs) (suc n) ≡ line x ++ lines_to bs n
+  lines_known x e n = lines_shifted n ∙ ap (λ (r : Option Command). line_read r ++ lines_to bs n) e
 
 lines_first : (c : Command) (bs : List ℕ) (n : ℕ) → lines_to (bytes_of c ++ bs) (suc n) ≡ line c ++ lines_to bs n
 lines_first (Out p v) bs n = lines_known _ _ _ _ bs _ (bytes_read (Out p v)) n

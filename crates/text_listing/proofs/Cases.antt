@@ -31,12 +31,12 @@ use Rattle.chip.specs.State.{Named, named}
 use Rattle.chip.specs.Names.{register, locked, received}
 use Rattle.chip.specs.Reset.{reset_byte, reset}
 use Rattle.chip.proofs.DifferLaws.{received_same-stored}
-use Rattle.script.specs.declared.Checked.TheVariants.{Accepted}
 use Rattle.chip_play.specs.ByName.{applied, steps_changing}
 use Rattle.chip_play.specs.Played.{fresh, changing_of}
 use Rattle.chip_play.proofs.Playing.{fresh_open}
 use Rattle.chip_play.proofs.StepsChanging.{changing_script}
 use Rattle.text_listing.specs.Text.{header, text, short_text}
+use Rattle.std.specs.Prelude.{Ok}
 
 -- "FIELD XR80, mask 80h, value 80h"
 pub case_12 : lines_of (expanded (Field 3 0x80 0x80 0x80)) ≡ ascii "OUT 3D6 80\nIN 3D7\nMERGE 7F 80\nOUTA 3D7\n"
@@ -55,7 +55,7 @@ steps_13 : steps_to file_13 (step_count file_13) ≡ Set 3 0x60 0x43 ∷ []
 unfolding checked steps_checked block_legal content_legal word_sum first_not every step_count step_of shaped judged names legal fits idle group_at row_of xr_lines next_of steps_to
 steps_13 = refl
 
-accepted_13 : checked file_13 ≡ Accepted 1
+accepted_13 : checked file_13 ≡ Ok 1
 unfolding checked steps_checked block_legal content_legal word_sum first_not every step_count step_of shaped judged names legal fits idle group_at row_of xr_lines next_of steps_to
 accepted_13 = refl
 
@@ -97,7 +97,7 @@ case_again_by : short_text file_again 32256 ≡ header 3 5 (changing_of fresh fi
 unfolding short_text short_translated shortened last_sent checked steps_checked block_legal content_legal word_sum first_not every step_count step_of shaped judged names legal fits idle group_at row_of xr_lines sr_lines next_of steps_to commands_of expanded ways lines_of decimal_in
 case_again_by = refl
 
-accepted-again : checked file_again ≡ Accepted 3
+accepted-again : checked file_again ≡ Ok 3
 unfolding checked steps_checked block_legal content_legal word_sum first_not every step_count step_of shaped judged names legal fits idle group_at row_of xr_lines sr_lines next_of steps_to
 accepted-again = refl
 

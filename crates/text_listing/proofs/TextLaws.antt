@@ -13,8 +13,6 @@ use Rattle.script_steps.specs.declared.Step.{Step}
 use Rattle.script_steps.specs.declared.Step.TheVariants.{Set, Field, Colour}
 use Rattle.script.specs.File.{whole_blocks, step_count, checked}
 use Rattle.script.specs.Numbers.{of_refusal}
-use Rattle.script.specs.declared.Checked.{Checked}
-use Rattle.script.specs.declared.Checked.TheVariants.{Accepted, Refused as NotAccepted}
 use Rattle.script.proofs.Checking.{Legal, answer_says, check_length}
 use Rattle.script.proofs.Counting.{accepted_few, long_refused, start_decides}
 use Rattle.script_commands.specs.Expansion.{ways, set_by, field_by, expanded}
@@ -23,8 +21,6 @@ use Rattle.script_commands.specs.declared.Command.{Command}
 use Rattle.script_commands.specs.declared.Command.TheVariants.{Out, In, Merge, OutAcc}
 use Rattle.script_commands.specs.declared.Ways.{Ways}
 use Rattle.script_commands.specs.declared.Ways.TheVariants.{Pair, Pairs, Direct, Turns, Nowhere}
-use Rattle.script_commands.specs.declared.Translated.{Translated}
-use Rattle.script_commands.specs.declared.Translated.TheVariants.{Commands, Refused}
 use Rattle.script_commands.proofs.Expanding.{begins_most}
 use Rattle.script_short.specs.Short.{short_to, short_translated}
 use Rattle.script_short.proofs.ShortLaws.{short_most}
@@ -33,10 +29,12 @@ use Rattle.text.specs.Refused.{refused}
 use Rattle.text.proofs.Adding.{refused_most}
 use Rattle.text_listing.specs.Line.{line, lines_of}
 use Rattle.text_listing.specs.Text.{header, text_by, text, short_text, wanted, answered, listed_by, listed, short_listed}
-use Rattle.text_listing.specs.declared.Listed.{Listed}
-use Rattle.text_listing.specs.declared.Listed.TheVariants.{Text, Refused as NotListed, Short}
 use Rattle.text_listing.proofs.Adding.{line_most}
 use Rattle.text_listing.proofs.Listing.{header_most, list_few}
+use Rattle.std.specs.Prelude.{Result, Ok, Err}
+use Rattle.script.specs.declared.Refusal.{Refusal}
+use Rattle.text_listing.specs.declared.ListError.{ListError}
+use Rattle.text_listing.specs.declared.ListError.TheVariants.{Refused as NotListed, Short}
 
 -- ---- the text fits
 pub length_lines : (cs : List Command) → length (lines_of cs) ≤ 12 * length cs
@@ -48,33 +46,33 @@ length_lines (c ∷ cs) =
     rw (length-append (line c) (lines_of cs)) (omega arith)
 
 -- how many bytes of text an answer counts
-abbrev pub counted : Listed → ℕ
-counted (Text n) = n
-counted (NotListed r n) = n
-counted Short = 0
+abbrev pub counted : Result ℕ ListError → ℕ
+counted (Ok n) = n
+counted (Err (NotListed r n)) = n
+counted (Err Short) = 0
 
-answered-counted : (t : Translated) (n : ℕ) → counted (answered t n) ≡ n
-answered-counted (Commands k) n = refl
-answered-counted (Refused r) n = refl
+answered-counted : (t : Result ℕ Refusal) (n : ℕ) → counted (answered t n) ≡ n
+answered-counted (Ok k) n = refl
+answered-counted (Err r) n = refl
 
-within_by : (t : Translated) (x : List ℕ) (room : ℕ) → length x ≤ wanted t → counted (listed_by t x room) ≤ room
+within_by : (t : Result ℕ Refusal) (x : List ℕ) (room : ℕ) → length x ≤ wanted t → counted (listed_by t x room) ≤ room
 within_by t x room h = go (ltb room (wanted t)) refl
   where
-    go : (b : Bool) → ltb room (wanted t) ≡ b → counted (cond b Short (answered t (length x))) ≤ room
+    go : (b : Bool) → ltb room (wanted t) ≡ b → counted (cond b (Err Short) (answered t (length x))) ≤ room
     go true eb = omega arith
     go false eb = let enough : wanted t ≤ room = ltb-false _ _ eb in omega (arith, answered-counted t (length x))
 
-whole_by : (t : Translated) (x : List ℕ) (room : ℕ) → wanted t ≤ 96855 → 96855 ≤ room → listed_by t x room ≡ answered t (length x)
+whole_by : (t : Result ℕ Refusal) (x : List ℕ) (room : ℕ) → wanted t ≤ 96855 → 96855 ≤ room → listed_by t x room ≡ answered t (length x)
 whole_by t x room most h = let w : wanted t ≤ room = omega arith in rw (le-ltb _ _ w) refl
 
 -- the text of the file alone
-abbrev pub checked_text : Checked → (ℕ → List Command) → List ℕ → List ℕ
-checked_text (Accepted m) list f = header m (length (list m)) (changing_of fresh f) ++ lines_of (list m)
-checked_text (NotAccepted r) list f = refused (of_refusal r).number
+abbrev pub checked_text : Result ℕ Refusal → (ℕ → List Command) → List ℕ → List ℕ
+checked_text (Ok m) list f = header m (length (list m)) (changing_of fresh f) ++ lines_of (list m)
+checked_text (Err r) list f = refused (of_refusal r).number
 
 -- ---- of a list of at most 8 commands a step, whichever it is
 module _ (list : List ℕ → ℕ → List Command) (most : (f : List ℕ) (n : ℕ) → length (list f n) ≤ 8 * n) where
-  abbrev answer : List ℕ → ℕ → Translated
+  abbrev answer : List ℕ → ℕ → Result ℕ Refusal
   answer f work = if_room (checked f) (list f) work
 
   abbrev whole : List ℕ → ℕ → List ℕ
@@ -83,9 +81,9 @@ module _ (list : List ℕ → ℕ → List Command) (most : (f : List ℕ) (n : 
   list_text_most : (f : List ℕ) (work : ℕ) → length (whole f work) ≤ wanted (answer f work)
   list_text_most f work = go (answer f work) refl
     where
-      go : (t : Translated) → answer f work ≡ t → length (text_by t (list f (step_count f)) f) ≤ wanted t
-      go (Refused r) e = omega (arith, refused_most (of_refusal r).number)
-      go (Commands k) e =
+      go : (t : Result ℕ Refusal) → answer f work ≡ t → length (text_by t (list f (step_count f)) f) ≤ wanted t
+      go (Err r) e = omega (arith, refused_most (of_refusal r).number)
+      go (Ok k) e =
           let cs : List Command = list f (step_count f) in
           let w : k ≡ length cs = (list_few f (list f) (most f) work k e).count in
           let h : length (header (step_count f) k (changing_of fresh f)) ≤ 87 = header_most (step_count f) k (changing_of fresh f) in
@@ -95,16 +93,16 @@ module _ (list : List ℕ → ℕ → List Command) (most : (f : List ℕ) (n : 
   list_wanted_most : (f : List ℕ) (work : ℕ) → wanted (answer f work) ≤ 96855
   list_wanted_most f work = go (answer f work) refl
     where
-      go : (t : Translated) → answer f work ≡ t → wanted t ≤ 96855
-      go (Refused r) e = omega arith
-      go (Commands k) e = omega (arith, (list_few f (list f) (most f) work k e).few)
+      go : (t : Result ℕ Refusal) → answer f work ≡ t → wanted t ≤ 96855
+      go (Err r) e = omega arith
+      go (Ok k) e = omega (arith, (list_few f (list f) (most f) work k e).few)
 
   list_text_alone : (f : List ℕ) (work : ℕ) → 32256 ≤ work → whole f work ≡ checked_text (checked f) (list f) f
   list_text_alone f work h = go (checked f) refl
     where
-      go : (r : Checked) → checked f ≡ r → text_by (if_room r (list f) work) (list f (step_count f)) f ≡ checked_text r (list f) f
-      go (NotAccepted r) e = refl
-      go (Accepted m) e =
+      go : (r : Result ℕ Refusal) → checked f ≡ r → text_by (if_room r (list f) work) (list f (step_count f)) f ≡ checked_text r (list f) f
+      go (Err r) e = refl
+      go (Ok m) e =
           let few : 32 * m ≤ work = omega (arith, (accepted_few f m e).1) in
           let l : Legal f m = answer_says f e in
           rw (le-ltb _ _ few, l.count)

@@ -8,6 +8,8 @@
 ghost use Rattle.std.specs.Prelude.{◌≡◌, ◌++◌, ◌+◌, ◌*◌, ◌≤◌, length};
 ghost use Rattle.script_commands.specs.Translation.{translated, left_by as translatedBy};
 ghost use Rattle.script_short.specs.Short.{short_translated, short_left_by};
+ghost use Rattle.text.specs.Ascii.{ascii};
+ghost use Rattle.text.specs.Digits.{byte_digits, port_digits};
 ghost use Rattle.text.specs.Adding.{AddedIn};
 ghost use Rattle.text_listing.specs.Line.{words, line};
 ghost use Rattle.text.specs.Refused.{refused};
@@ -16,19 +18,26 @@ ghost use Rattle.lists.specs.Put.{Added};
 ghost use Rattle.text_listing.specs.Adding.{line_read, lines_to, answer_of, Stands, text_of};
 
 use chip::Chip;
-use chip_play::{Outcome, play};
+use chip_play::play;
+use chip_run::Tally;
 use chip_short::play_short;
 use script::{Refusal, step_count};
-use script_commands::{Command, CommandRead, command_of};
-use text::{add, add_decimal, add_refused, digit, has_room};
+use script_commands::{Command, command_of};
+use text::{add, add_byte, add_decimal, add_refused, digit, has_room};
 
-// What the listing answers: how many bytes of text there are, for a file that is refused with the refusal; or that the
-// output is too short.
+// Why a file is not listed: it is refused, and its text of so many bytes says so; or the output is too short.
 #[derive(Clone, Copy)]
-pub enum Listed {
-    Text(usize),
+pub enum ListError {
     Refused(Refusal, usize),
     Short,
+}
+
+// The digits of a port.
+fn put_port(out: &mut [u8], at: usize, port: u16) -> usize
+    requires { at + 3 ≤ length out.old }
+    ensures { Added out.old at (port_digits port) out.new result }
+{
+    add(out, at, &[digit(port / 256), digit(port / 16), digit(port)])
 }
 
 // The words of a command.
@@ -38,62 +47,22 @@ fn put_words(out: &mut [u8], at: usize, c: Command) -> usize
 {
     match c {
         Command::Out(port, value) => {
-            let v = value as u16;
-            let text = [
-                b'O',
-                b'U',
-                b'T',
-                b' ',
-                digit(port / 256),
-                digit(port / 16),
-                digit(port),
-                b' ',
-                digit(v / 16),
-                digit(v),
-            ];
-            add(out, at, &text)
+            let word = add(out, at, b"OUT ");
+            let number = put_port(out, word, port);
+            add_byte(out, number, value)
         }
         Command::In(port) => {
-            let text = [
-                b'I',
-                b'N',
-                b' ',
-                digit(port / 256),
-                digit(port / 16),
-                digit(port),
-            ];
-            add(out, at, &text)
+            let word = add(out, at, b"IN ");
+            put_port(out, word, port)
         }
         Command::Merge(keep, set) => {
-            let k = keep as u16;
-            let s = set as u16;
-            let text = [
-                b'M',
-                b'E',
-                b'R',
-                b'G',
-                b'E',
-                b' ',
-                digit(k / 16),
-                digit(k),
-                b' ',
-                digit(s / 16),
-                digit(s),
-            ];
-            add(out, at, &text)
+            let word = add(out, at, b"MERGE");
+            let kept = add_byte(out, word, keep);
+            add_byte(out, kept, set)
         }
         Command::OutAcc(port) => {
-            let text = [
-                b'O',
-                b'U',
-                b'T',
-                b'A',
-                b' ',
-                digit(port / 256),
-                digit(port / 16),
-                digit(port),
-            ];
-            add(out, at, &text)
+            let word = add(out, at, b"OUTA ");
+            put_port(out, word, port)
         }
     }
 }
@@ -118,14 +87,14 @@ fn add_line(out: &mut [u8], at: usize, c: Command) -> usize
     add(out, end, b"\n")
 }
 
-// The line of what four bytes were read as.
-fn add_read(out: &mut [u8], at: usize, c: CommandRead) -> usize
+// The line of what four bytes were read as: a match, since `line_read` has a line for each case.
+fn add_read(out: &mut [u8], at: usize, c: Option<Command>) -> usize
     requires { at + 12 ≤ length out.old }
     ensures { Added out.old at (line_read c) out.new result }
 {
     match c {
-        CommandRead::Known(x) => add_line(out, at, x),
-        CommandRead::Unknown => at,
+        Some(x) => add_line(out, at, x),
+        None => at,
     }
 }
 
@@ -135,12 +104,10 @@ fn add_lines(out: &mut [u8], from: usize, bytes: &[u8], n: usize) -> usize
     ensures { Added out.old from (lines_to bytes.now n) out.new result }
 {
     let mut at = from;
-    let mut j = 0;
-    while j < n {
+    for j in 0..n {
         let p = 4 * j;
         let c = command_of(bytes[p], bytes[p + 1], bytes[p + 2], bytes[p + 3]);
         at = add_read(out, at, c);
-        j += 1;
     }
     at
 }
@@ -157,7 +124,7 @@ fn add_counts(out: &mut [u8], steps: usize, commands: usize) -> usize
     add(out, end, b"\n")
 }
 
-// The header's second line.
+// The header's second line: of its own, since a word, a number and a line feed are no shorter by a call.
 fn add_changing(out: &mut [u8], at: usize, changing: usize) -> usize
     requires { at + 30 ≤ length out.old }
     ensures { Added out.old at (changing_line changing) out.new result }
@@ -176,14 +143,6 @@ fn add_header(out: &mut [u8], steps: usize, commands: usize, changing: usize) ->
     add_changing(out, at, changing)
 }
 
-// The line of a refusal.
-fn add_refusal(out: &mut [u8], number: usize) -> usize
-    requires { 87 ≤ length out.old }
-    ensures { Added out.old 0 (refused number) out.new result }
-{
-    add_refused(out, 0, number)
-}
-
 // The header and the lines of k commands.
 fn add_text(out: &mut [u8], steps: usize, changing: usize, bytes: &[u8], k: usize) -> usize
     requires { (4 * k ≤ length bytes.now) × (87 + 12 * k ≤ length out.old) }
@@ -194,47 +153,51 @@ fn add_text(out: &mut [u8], steps: usize, changing: usize, bytes: &[u8], k: usiz
 }
 
 // The listing of a script file of which a play answered this and left its commands in front of `work`.
-fn put_listing(out: &mut [u8], file: &[u8], work: &[u8], outcome: Outcome) -> Listed
+fn put_listing(
+    out: &mut [u8],
+    file: &[u8],
+    work: &[u8],
+    outcome: Result<Tally, Refusal>,
+) -> Result<usize, ListError>
     requires { Stands outcome work.now }
     ensures value { result ≡ listed_by (answer_of outcome) (text_of outcome file.now work.now) (length out.old) }
     ensures out_after { out.new ≡ left_by result (text_of outcome file.now work.now) out.old }
 {
     match outcome {
-        Outcome::NotPlayed(r) => {
+        Err(r) => {
             if out.len() < 87 {
-                return Listed::Short;
+                return Err(ListError::Short);
             }
-            Listed::Refused(r, add_refusal(out, r.number() as usize))
+            let size = add_refused(out, 0, usize::from(r.number()));
+            Err(ListError::Refused(r, size))
         }
-        Outcome::Played(k, changing, _) => {
-            if out.len() < 87 + 12 * k {
-                return Listed::Short;
+        Ok(tally) => {
+            if out.len() < 87 + 12 * tally.count {
+                return Err(ListError::Short);
             }
-            Listed::Text(add_text(out, step_count(file), changing, work, k))
+            Ok(add_text(out, step_count(file), tally.changing, work, tally.count))
         }
     }
 }
 
 // The listing of a script file into `out`; its commands go to `work`, which wants 32 bytes a step.
-pub fn list(file: &[u8], work: &mut [u8], out: &mut [u8]) -> Listed
+pub fn list(file: &[u8], work: &mut [u8], out: &mut [u8]) -> Result<usize, ListError>
     ensures value { result ≡ listed file.now (length work.old) (length out.old) }
     ensures out_after { out.new ≡ left_by result (text file.now (length work.old)) out.old }
     ensures work_after { work.new ≡ translatedBy (translated file.now (length work.old)) file.now work.old }
     ensures result_value { of_listed result ≡ listed_table file.now (length work.old) (length out.old) }
 {
     let played = play(Chip::new(0xFF, 0xFF), file, work);
-    let outcome = played.outcome;
-    put_listing(out, file, work, outcome)
+    put_listing(out, file, work, played.outcome)
 }
 
-// The same of the shorter list of its commands: document 02, P8.
-pub fn list_short(file: &[u8], work: &mut [u8], out: &mut [u8]) -> Listed
+// The same of the shorter list of its commands: document 02, P8. Two lines each, over another play with other definitions.
+pub fn list_short(file: &[u8], work: &mut [u8], out: &mut [u8]) -> Result<usize, ListError>
     ensures value { result ≡ short_listed file.now (length work.old) (length out.old) }
     ensures out_after { out.new ≡ left_by result (short_text file.now (length work.old)) out.old }
     ensures work_after { work.new ≡ short_left_by (short_translated file.now (length work.old)) file.now work.old }
     ensures result_value { of_listed result ≡ short_listed_table file.now (length work.old) (length out.old) }
 {
     let played = play_short(Chip::new(0xFF, 0xFF), file, work);
-    let outcome = played.outcome;
-    put_listing(out, file, work, outcome)
+    put_listing(out, file, work, played.outcome)
 }

@@ -13,17 +13,11 @@ ghost use Rattle.text_changes.specs.Changes.{changed};
 ghost use Rattle.text_played.specs.Told.{commands_line, tale, told_of, left_of, told, left};
 
 use chip::Chip;
-use chip_play::{Outcome, play};
+use chip_play::play;
+use chip_run::Tally;
 use script::Refusal;
 use text::{add, add_decimal};
 use text_changes::tell_changes;
-
-// What telling a script answers: how many bytes of text there are, or the refusal.
-#[derive(Clone, Copy)]
-pub enum Told {
-    Text(usize),
-    Refused(Refusal),
-}
 
 // What differs from a reset.
 fn put_changes(after: Chip, out: &mut [u8]) -> usize
@@ -33,7 +27,7 @@ fn put_changes(after: Chip, out: &mut [u8]) -> usize
     tell_changes(Chip::new(0xFF, 0xFF), after, out, 0)
 }
 
-// The line of so many commands.
+// The line of so many commands: of its own, since a word, a number and a line feed are no shorter by a call.
 fn put_commands(out: &mut [u8], at: usize, count: usize) -> usize
     requires { at + 30 ≤ length out.old }
     ensures { Added out.old at (commands_line count) out.new result }
@@ -53,29 +47,23 @@ fn put_tale(after: Chip, count: usize, out: &mut [u8]) -> usize
 }
 
 // What became of a script, as text in `out`.
-fn say(after: Chip, outcome: Outcome, out: &mut [u8]) -> Told
+fn say(after: Chip, outcome: Result<Tally, Refusal>, out: &mut [u8]) -> Result<usize, Refusal>
     ensures value { result ≡ told_of outcome (named (view after)) (length out.old) }
     ensures out_after { out.new ≡ left_of outcome (named (view after)) out.old }
 {
-    match outcome {
-        Outcome::NotPlayed(why) => Told::Refused(why),
-        Outcome::Played(count, _, _) => {
-            if out.len() < 38430 {
-                return Told::Refused(Refusal::Room);
-            }
-            Told::Text(put_tale(after, count, out))
-        }
+    let tally = outcome?;
+    if out.len() < 38430 {
+        return Err(Refusal::Room);
     }
+    Ok(put_tale(after, tally.count, out))
 }
 
 // A script file played, as text in `out`, which wants 38,430 bytes. The other buffer is lent for the commands, 32 bytes a step.
-pub fn tell(file: &[u8], work: &mut [u8], out: &mut [u8]) -> Told
+pub fn tell(file: &[u8], work: &mut [u8], out: &mut [u8]) -> Result<usize, Refusal>
     ensures value { result ≡ told file.now (length work.old) (length out.old) }
     ensures out_after { out.new ≡ left file.now (length work.old) out.old }
     ensures work_after { work.new ≡ written_by (translated file.now (length work.old)) file.now work.old }
 {
     let played = play(Chip::new(0xFF, 0xFF), file, work);
-    let after = played.chip;
-    let outcome = played.outcome;
-    say(after, outcome, out)
+    say(played.chip, played.outcome, out)
 }

@@ -16,20 +16,21 @@ fn put_words(out: &mut [u8], at: usize, n: u8) -> usize
     requires { at + 60 ≤ length out.old }
     ensures { Added out.old at (words_of n) out.new result }
 {
-    match n {
-        1 => add(out, at, b"no such port in that direction"),
-        2 => add(out, at, b"the ports are closed"),
-        3 => add(out, at, b"a length of memory that is not allowed"),
-        4 => add(out, at, b"a byte outside memory"),
-        5 => add(out, at, b"a transfer number out of its range"),
-        6 => add(out, at, b"a block breaks a layout or check rule"),
-        7 => add(out, at, b"a step is none of the allowed"),
-        8 => add(out, at, b"not 1 to 12 whole blocks, or not 1 to 1008 steps"),
-        9 => add(out, at, b"too little room for the output"),
-        10 => add(out, at, b"a command of no known form"),
-        11 => add(out, at, b"a step can do nothing"),
-        _ => add(out, at, b"done"),
-    }
+    let words: &[u8] = match n {
+        1 => b"no such port in that direction",
+        2 => b"the ports are closed",
+        3 => b"a length of memory that is not allowed",
+        4 => b"a byte outside memory",
+        5 => b"a transfer number out of its range",
+        6 => b"a block breaks a layout or check rule",
+        7 => b"a step is none of the allowed",
+        8 => b"not 1 to 12 whole blocks, or not 1 to 1008 steps",
+        9 => b"too little room for the output",
+        10 => b"a command of no known form",
+        11 => b"a step can do nothing",
+        _ => b"done",
+    };
+    add(out, at, words)
 }
 
 // A number and its words, with a line feed.
@@ -62,8 +63,7 @@ fn put_place(out: &mut [u8], at: usize, r: Refusal) -> usize
     match r {
         Refusal::Block(k) => add_place(out, at, b"block ", k),
         Refusal::Step(j, _) => add_place(out, at, b"step ", j),
-        Refusal::Length => at,
-        Refusal::Room => at,
+        Refusal::Length | Refusal::Room => at,
     }
 }
 

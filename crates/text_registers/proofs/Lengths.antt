@@ -16,14 +16,14 @@ use Rattle.chip_registers.specs.Extension.{xr_lines}
 use Rattle.chip_registers.specs.FlatPanel.{fr_lines}
 use Rattle.chip_registers.specs.Multimedia.{mr_lines}
 use Rattle.chip_registers.specs.declared.Group.{Group}
-use Rattle.chip_registers.specs.declared.Row.{Row}
-use Rattle.chip_registers.specs.declared.Row.TheVariants.{Listed, Unlisted}
 use Rattle.chip.specs.State.{Named}
 use Rattle.chip.specs.Names.{register}
 use Rattle.text_steps.specs.Written.{letter, name_text}
 use Rattle.text_steps.proofs.Lengths.{name_most}
 use Rattle.text_registers.specs.Line.{shown, cell, joined, cells_to, across, line}
 use Rattle.text_registers.specs.Text.{any_listed, line_at, lines_to, paragraph, paragraphs_to, dumped}
+use Rattle.std.specs.Prelude.{Option, Some, None}
+use Rattle.chip_registers.specs.declared.Row.{Row}
 
 -- ---- pieces that are so long, or no longer
 module _ (piece : ℕ → List ℕ) (m : ℕ) where
@@ -44,13 +44,16 @@ module _ (piece : ℕ → List ℕ) (m : ℕ) where
       simp length-append (omega arith)
 
 -- ---- cells
-shown-length : (r : Row) (byte : ℕ) → length (shown r byte) ≡ 2
-shown-length (Listed w r) byte = refl
-shown-length Unlisted byte = refl
+shown-length : (r : Option Row) (byte : ℕ) → length (shown r byte) ≡ 2
+shown-length (Some row) byte = refl
+shown-length None byte = refl
 
 module _ (g : Group) (n : Named) where
   pub cell-length : (i : ℕ) → length (cell g n i) ≡ 3
   cell-length i = rw (shown-length (row_of g i) (register g n i))
+
+  pub cell_most : (i : ℕ) → length (cell g n i) ≤ 3
+  cell_most i = omega (arith, cell-length i)
 
   pub cells_length : (i k : ℕ) → length (cells_to g n i k) ≡ k * 3
   cells_length i k = joined_length (λ (j : ℕ). cell g n (i + j)) 3 (λ j. cell-length (i + j)) k

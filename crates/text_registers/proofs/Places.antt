@@ -9,8 +9,6 @@ use lib.ListN.{length, take, drop, length-append, length-drop}
 use lib.Seq.{take_all, take-append-le, drop-append-le, drop-append-add, drop_at, drop-drop}
 use Rattle.chip_registers.specs.Groups.{group_at, row_of}
 use Rattle.chip_registers.specs.declared.Group.{Group}
-use Rattle.chip_registers.specs.declared.Row.{Row}
-use Rattle.chip_registers.specs.declared.Row.TheVariants.{Listed}
 use Rattle.chip.specs.State.{Named}
 use Rattle.chip.specs.Names.{register}
 use Rattle.text.specs.Ascii.{ascii}
@@ -18,6 +16,9 @@ use Rattle.text.proofs.DigitLaws.{value_of, byte-read}
 use Rattle.text_steps.specs.Written.{name_text}
 use Rattle.text_registers.specs.Line.{shown, cell, joined, cells_to, across, line}
 use Rattle.text_registers.proofs.Lengths.{joined_length, cell-length, cells_length}
+use Rattle.std.specs.Prelude.{Option, Some}
+use Rattle.chip_registers.specs.declared.Row.{Row}
+use Rattle.chip_registers.specs.Rows.{listed}
 
 -- a cell among cells
 module _ (piece : ℕ → List ℕ) (three : (j : ℕ) → length (piece j) ≡ 3) where
@@ -70,7 +71,7 @@ module _ (g : ℕ) (n : Named) (i k : ℕ) (h : k < across g) where
       ∙ ap (drop 1) (joined_at (λ (j : ℕ). cell group n (i + j)) (λ j. cell-length group n (i + j)) (across g) k h)
 
   -- a listed register's byte is read back from there
-  pub register-read : (w r : ℕ) → row_of (group_at g) (i + k) ≡ Listed w r
+  pub register-read : (w r : ℕ) → row_of (group_at g) (i + k) ≡ Some (listed w r)
       → value_of 16 0 (take 2 (drop place (line g n i))) ≡ register (group_at g) n (i + k) % 256
   register-read w r e =
-      ap (value_of 16 0) (shown-at ∙ ap (λ (x : Row). shown x (register group n (i + k))) e) ∙ byte-read (register group n (i + k))
+      ap (value_of 16 0) (shown-at ∙ ap (λ (x : Option Row). shown x (register group n (i + k))) e) ∙ byte-read (register group n (i + k))

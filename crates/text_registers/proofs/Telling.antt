@@ -13,7 +13,6 @@ use lib.Seq.{take-append_seam, drop-append_seam}
 use Rattle.chip_registers.specs.Groups.{number_of, group_at, row_of}
 use Rattle.chip_registers.specs.declared.Group.{Group}
 use Rattle.chip_registers.specs.declared.Group.TheVariants.{Cr, Sr, Gr, Xr, Fr, Mr, Msr, Palmask, Ar}
-use Rattle.chip_registers.specs.declared.Row.TheVariants.{Listed}
 use Rattle.chip_registers.proofs.TableLaws.{group_numbered}
 use Rattle.chip.specs.State.{Named}
 use Rattle.chip.specs.Names.{register}
@@ -22,6 +21,8 @@ use Rattle.text_steps.specs.Written.{name_text}
 use Rattle.text_registers.specs.Line.{cell, joined, cells_to, across, line}
 use Rattle.text_registers.specs.Text.{is_listed, any_listed, line_at, lines_to, paragraph, dumped}
 use Rattle.text_registers.proofs.Lengths.{cells_length, joined_same, cell_same, line_at_same, lines_same, paragraph-same}
+use Rattle.std.specs.Prelude.{Some}
+use Rattle.chip_registers.specs.Rows.{listed}
 
 -- ---- parts of equal texts
 parts : {x y : List ℕ} (a b : List ℕ) → length a ≡ length b → a ++ x ≡ b ++ y → (a ≡ b) × (x ≡ y)
@@ -108,7 +109,7 @@ group_across Msr = (omega arith, inr (refl, refl, λ n i. refl))
 group_across Palmask = (omega arith, inr (refl, refl, λ n i. refl))
 group_across Ar = (omega arith, inl refl)
 
-module _ (n m : Named) (same : dumped n ≡ dumped m) (g : Group) (i w r : ℕ) (h : i < 256) (e : row_of g i ≡ Listed w r) where
+module _ (n m : Named) (same : dumped n ≡ dumped m) (g : Group) (i w r : ℕ) (h : i < 256) (e : row_of g i ≡ Some (listed w r)) where
   -- the cell of a line and a place in it
   cell_at : (q k : ℕ) → q < across (number_of g) → k < across (number_of g) → is_listed (row_of g (16 * q + k)) ≡ true
       → cell g n (16 * q + k) ≡ cell g m (16 * q + k)
@@ -124,7 +125,7 @@ module _ (n m : Named) (same : dumped n ≡ dumped m) (g : Group) (i w r : ℕ) 
 
 -- two states with the same text have the same byte in every listed register
 pub dumped-tells : (n m : Named) → dumped n ≡ dumped m
-    → (g : Group) (i w r : ℕ) → i < 256 → row_of g i ≡ Listed w r → register g n i % 256 ≡ register g m i % 256
+    → (g : Group) (i w r : ℕ) → i < 256 → row_of g i ≡ Some (listed w r) → register g n i % 256 ≡ register g m i % 256
 dumped-tells n m same g i w r h e =
     let c = cell-there n m same g i w r h e (group_across g).1 in
     sym (byte-read (register g n i)) ∙ ap (λ (x : List ℕ). value_of 16 0 (drop 1 x)) (rw e at c) ∙ byte-read (register g m i)

@@ -2,21 +2,20 @@
 -- the two digits of its byte, an index that is not listed has `--`. A line has sixteen registers; MSR and PALMASK are one
 -- register each, and their line is `MSR 67`. A group goes by its number (document 01, "Ports"; AR is 8). The byte of a
 -- register is read by name: no index register and no loading state is looked at. Names are the crate text_steps'.
-use Rattle.std.specs.Prelude.{ℕ, zero, suc, ◌+◌, cond, ◌||◌, List, [], ◌++◌, eqb}
+use Rattle.std.specs.Prelude.{ℕ, zero, suc, ◌+◌, cond, ◌||◌, List, [], ◌++◌, eqb, Option, Some, None}
 use Rattle.chip_registers.specs.Groups.{group_at, row_of}
 use Rattle.chip_registers.specs.declared.Group.{Group}
-use Rattle.chip_registers.specs.declared.Row.{Row}
-use Rattle.chip_registers.specs.declared.Row.TheVariants.{Listed, Unlisted}
 use Rattle.chip.specs.State.{Named}
 use Rattle.chip.specs.Names.{register}
 use Rattle.text.specs.Ascii.{ascii}
 use Rattle.text.specs.Digits.{byte_digits}
 use Rattle.text_steps.specs.Written.{name_text}
+use Rattle.chip_registers.specs.declared.Row.{Row}
 
 -- the two characters of a row whose register holds this byte
-abbrev pub shown : Row → ℕ → List ℕ
-shown (Listed w r) byte = byte_digits byte
-shown Unlisted byte = ascii "--"
+abbrev pub shown : Option Row → ℕ → List ℕ
+shown (Some row) byte = byte_digits byte
+shown None byte = ascii "--"
 
 -- a space and the two characters of an index
 abbrev pub cell : Group → Named → ℕ → List ℕ

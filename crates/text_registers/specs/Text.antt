@@ -3,18 +3,17 @@
 -- PALMASK have one line each. The text is made of what has a name alone, so it is the same whatever the indexes and the
 -- palette's loading state are. How long it is, where a register's digits stand, and that it tells every listed register are
 -- laws: proofs/Lengths, Places, Telling. It is put where 8,192 bytes are left (`AddedIn` of the crate text).
-use Rattle.std.specs.Prelude.{ℕ, zero, suc, ◌+◌, ◌*◌, Bool, true, false, cond, ◌||◌, List, [], ◌++◌}
+use Rattle.std.specs.Prelude.{ℕ, zero, suc, ◌+◌, ◌*◌, Bool, true, false, cond, ◌||◌, List, [], ◌++◌, Option, Some, None}
 use Rattle.chip_registers.specs.Groups.{group_at, row_of}
 use Rattle.chip_registers.specs.declared.Group.{Group}
-use Rattle.chip_registers.specs.declared.Row.{Row}
-use Rattle.chip_registers.specs.declared.Row.TheVariants.{Listed, Unlisted}
 use Rattle.chip.specs.State.{Named}
 use Rattle.text.specs.Ascii.{ascii}
 use Rattle.text_registers.specs.Line.{joined, across, line}
+use Rattle.chip_registers.specs.declared.Row.{Row}
 
-abbrev pub is_listed : Row → Bool
-is_listed (Listed w r) = true
-is_listed Unlisted = false
+abbrev pub is_listed : Option Row → Bool
+is_listed (Some row) = true
+is_listed None = false
 
 -- whether one of the first k indexes from i on is listed
 unfoldable pub any_listed : Group → ℕ → ℕ → Bool

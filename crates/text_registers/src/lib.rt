@@ -13,8 +13,8 @@ ghost use Rattle.text_registers.specs.Line.{cell, cells_to, across};
 ghost use Rattle.text_registers.specs.Text.{is_listed, any_listed, line_at, lines_to, paragraph, dumped};
 
 use chip::Chip;
-use chip_registers::{Group, Row, group_at, row_of};
-use text::{add, digit, has_room};
+use chip_registers::{Group, group_at, row_of};
+use text::{add, add_byte, has_room};
 use text_steps::add_name;
 
 // A space, and the byte of a register, or `--` at an index that is not listed.
@@ -23,12 +23,8 @@ fn add_cell(chip: Chip, g: Group, i: u8, out: &mut [u8], at: usize) -> usize
     ensures { Added out.old at (cell g (named (view chip)) i) out.new result }
 {
     match row_of(g, i) {
-        Row::Listed(_, _) => {
-            let v = chip.get(g, i) as u16;
-            let text = [b' ', digit(v / 16), digit(v)];
-            add(out, at, &text)
-        }
-        Row::Unlisted => add(out, at, b" --"),
+        Some(_) => add_byte(out, at, chip.get(g, i)),
+        None => add(out, at, b" --"),
     }
 }
 
@@ -38,10 +34,8 @@ fn add_cells(chip: Chip, g: Group, i: u8, n: u8, out: &mut [u8], from: usize) ->
     ensures { Added out.old from (cells_to g (named (view chip)) i n) out.new result }
 {
     let mut at = from;
-    let mut k: u8 = 0;
-    while k < n {
+    for k in 0..n {
         at = add_cell(chip, g, i + k, out, at);
-        k += 1;
     }
     at
 }
@@ -50,10 +44,7 @@ fn add_cells(chip: Chip, g: Group, i: u8, n: u8, out: &mut [u8], from: usize) ->
 fn is_listed(g: Group, i: u8) -> bool
     ensures { result ≡ is_listed (row_of g i) }
 {
-    match row_of(g, i) {
-        Row::Listed(_, _) => true,
-        Row::Unlisted => false,
-    }
+    row_of(g, i).is_some()
 }
 
 // Whether one of the n indexes from i on is listed.
@@ -61,16 +52,11 @@ fn any_listed(g: Group, i: u8, n: u8) -> bool
     requires { i + n ≤ 256 }
     ensures { result ≡ any_listed g i n }
 {
-    let mut any = false;
-    let mut k: u8 = 0;
-    while k < n {
-        any = any | is_listed(g, i + k);
-        k += 1;
-    }
-    any
+    (0..n).any(|k| is_listed(g, i + k))
 }
 
-// How many registers a line of the group with this number has, and how many lines it has at most.
+// How many registers a line of the group with this number has, and how many lines it has at most. Groups go by number here as in
+// specs/Line and at add_name; 6 is MSR and 7 PALMASK.
 fn count_across(g: u8) -> u8
     ensures { (result ≡ across g) × (result ≤ 16) }
 {
@@ -99,10 +85,8 @@ fn add_lines(chip: Chip, g: u8, out: &mut [u8], from: usize) -> usize
 {
     let n = count_across(g);
     let mut at = from;
-    let mut k: u8 = 0;
-    while k < n {
+    for k in 0..n {
         at = add_line(chip, g, 16 * k, out, at);
-        k += 1;
     }
     at
 }
@@ -122,10 +106,8 @@ fn add_paragraphs(chip: Chip, out: &mut [u8], from: usize) -> usize
     ensures { Added out.old from (dumped (named (view chip))) out.new result }
 {
     let mut at = from;
-    let mut g: u8 = 0;
-    while g < 9 {
+    for g in 0..9 {
         at = add_paragraph(chip, g, out, at);
-        g += 1;
     }
     at
 }

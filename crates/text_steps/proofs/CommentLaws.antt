@@ -12,13 +12,13 @@ use lib.Dec.{eqb}
 use lib.ListN.{length, get_or, take, drop, drop_of_length-le}
 use lib.Seq.{drop-cons, take-suc}
 use borrow.Author.Tests.{ne_eqb, ltb-true}
-use Rattle.lists.proofs.Tests.{and_both}
+use Rattle.std.proofs.lemmas.Bool.{and_parts}
 use Rattle.text_tokens.specs.declared.Tokens.{Tokens}
 use Rattle.text_tokens.specs.Tokens.{blank, none, ended, taken, taken_all, tokens_of}
 use Rattle.text_tokens.proofs.TokenLaws.{blank_last}
 use Rattle.text_steps.specs.Reading.{said, before_comment, line_of}
-use Rattle.text_steps.specs.declared.Line.TheVariants.{Pass}
 use Rattle.text_steps.proofs.Plain.{plain_character, plain, plain_other}
+use Rattle.std.specs.Prelude.{Ok, None}
 
 and_false : (b : Bool) → (b && false) ≡ false
 and_false true = refl
@@ -54,7 +54,7 @@ pub no_comment : (free : Bool) (l : List ℕ) → plain l ≡ true → before_co
 unfolding before_comment
 no_comment free [] h = refl
 no_comment free (c ∷ cs) h =
-    let t = and_both (plain_character c) (plain cs) h in
+    let t = and_parts (plain_character c) (plain cs) h in
     rw (ne_eqb c 0x23 (plain_other c t.0).1, and_false free) (ap (λ (x : List ℕ). c ∷ x) (no_comment (blank c) cs t.1))
 
 -- ---- a comment behind a blank
@@ -93,16 +93,16 @@ before-blanks : (bs r : List ℕ) → blanks bs ≡ true → before_comment true
 unfolding before_comment
 before-blanks [] r h = refl
 before-blanks (c ∷ cs) r h =
-    let t = and_both (blank c) (blanks cs) h in
+    let t = and_parts (blank c) (blanks cs) h in
     let low : c < 0x21 = ltb-true _ _ t.0 in
     rw (ne_eqb c 0x23 (λ z. omega arith), t.0) (ap (λ (x : List ℕ). c ∷ x) (before-blanks cs r t.1))
 
 taken-blanks : (bs : List ℕ) → blanks bs ≡ true → taken_all none bs ≡ none
 unfolding taken_all taken ended
 taken-blanks [] h = refl
-taken-blanks (c ∷ cs) h = let t = and_both (blank c) (blanks cs) h in rw t.0 (taken-blanks cs t.1)
+taken-blanks (c ∷ cs) h = let t = and_parts (blank c) (blanks cs) h in rw t.0 (taken-blanks cs t.1)
 
-pub comment_passed : (bs r : List ℕ) → blanks bs ≡ true → line_of (bs ++ (0x23 ∷ r)) ≡ Pass
+pub comment_passed : (bs r : List ℕ) → blanks bs ≡ true → line_of (bs ++ (0x23 ∷ r)) ≡ Ok None
 unfolding line_of said tokens_of ended
 comment_passed bs r h =
     ap (λ (x : List ℕ). said (tokens_of x)) (before-blanks bs r h) ∙ ap (λ (s : Tokens). said (ended s)) (taken-blanks bs h)

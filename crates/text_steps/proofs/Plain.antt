@@ -8,7 +8,7 @@ use lib.Dec.{ltb, eqb}
 use borrow.Author.Tests.{lt-ltb, ltb-true, eqb-true}
 use Rattle.lists.specs.Scan.{every}
 use Rattle.lists.proofs.Scan.{every-at}
-use Rattle.lists.proofs.Tests.{and_both}
+use Rattle.std.proofs.lemmas.Bool.{and_parts}
 use Rattle.text.specs.Digits.{last_digit, byte_digits}
 use Rattle.script_steps.specs.Step.{legal}
 use Rattle.script_steps.proofs.Lawful.{named_group}
@@ -33,7 +33,7 @@ plain_other c h = go (ltb 0x23 c) refl h
 
 plain-append : (x y : List ℕ) → plain x ≡ true → plain y ≡ true → plain (x ++ y) ≡ true
 plain-append [] y h k = k
-plain-append (c ∷ cs) y h k = let t = and_both (plain_character c) (plain cs) h in rw t.0 (plain-append cs y t.1 k)
+plain-append (c ∷ cs) y h k = let t = and_parts (plain_character c) (plain cs) h in rw t.0 (plain-append cs y t.1 k)
 
 -- ---- digits and letters
 pub digit_range : (x : ℕ) → (0x30 ≤ last_digit x) × (last_digit x < 0x47)
@@ -67,7 +67,7 @@ pub step_plain : (s : Step) → legal s ≡ true → plain (step_text s) ≡ tru
 unfolding step_text legal
 step_plain (Set g i v) ok = plain-append (name_text g i) (byte_text v) (name_plain g i (named_group g i ok)) (byte-plain v)
 step_plain (Field g i v m) ok =
-    let t = and_both _ _ ok in
+    let t = and_parts _ _ ok in
     plain-append (name_text g i ++ byte_text m) (byte_text v)
     (plain-append (name_text g i) (byte_text m) (name_plain g i (named_group g i t.0)) (byte-plain m))
     (byte-plain v)

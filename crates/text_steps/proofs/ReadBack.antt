@@ -12,10 +12,10 @@ use borrow.Author.Tests.{lt-ltb, lt-leb, ne_eqb, ltb-true, leb-true, eqb-true}
 use Rattle.lists.specs.Scan.{every}
 use Rattle.lists.specs.Tab.{Bytes}
 use Rattle.lists.proofs.Scan.{every-at}
-use Rattle.lists.proofs.Tests.{and_both}
+use Rattle.std.proofs.lemmas.Bool.{and_parts}
 use Rattle.text.specs.Digits.{last_digit, byte_digits}
 use Rattle.text_tokens.specs.declared.Tokens.{Tokens}
-use Rattle.text_tokens.specs.Tokens.{none, grown, ended, taken, taken_all, tokens_of, packed}
+use Rattle.text_tokens.specs.Tokens.{grown, ended, taken, taken_all, tokens_of, packed}
 use Rattle.text_tokens.specs.Hex.{digit_value, is_byte, byte_of}
 use Rattle.text_tokens.proofs.TokenLaws.{Character, plain-character, reading, token-taken}
 use Rattle.script_steps.specs.Step.{names, legal, bytes_of}
@@ -23,11 +23,10 @@ use Rattle.script_steps.proofs.Lawful.{names-single, named_group}
 use Rattle.script_steps.specs.declared.Step.{Step}
 use Rattle.script_steps.specs.declared.Step.TheVariants.{Set, Field, Colour}
 use Rattle.text_steps.specs.Written.{letter, name_text, byte_text, step_text}
-use Rattle.text_steps.specs.Reading.{group_of, indexed, name_of, set_of, field_of, colour_of, step_of, said, line_of}
-use Rattle.text_steps.specs.declared.Name.TheVariants.{Of}
-use Rattle.text_steps.specs.declared.Line.TheVariants.{Is}
+use Rattle.text_steps.specs.Reading.{group_of, indexed, name_of, set_of, field_of, colour_of, step_of, said, line_of, register_name}
 use Rattle.text_steps.proofs.Plain.{digit_range, step_plain}
 use Rattle.text_steps.proofs.CommentLaws.{no_comment}
+use Rattle.std.specs.Prelude.{Ok, Some}
 
 -- ---- a byte
 abbrev pair : ℕ → ℕ
@@ -46,7 +45,7 @@ all_pairs = refl
 module _ (v : ℕ) (byte : v < 256) where
   pair_reads : (is_byte (pair v) ≡ true) × (byte_of (pair v) ≡ v)
   pair_reads =
-      let t = and_both (is_byte (pair v)) (eqb (byte_of (pair v)) v) (every-at pairs 0 256 all_pairs v (omega arith) (omega arith)) in
+      let t = and_parts (is_byte (pair v)) (eqb (byte_of (pair v)) v) (every-at pairs 0 256 all_pairs v (omega arith) (omega arith)) in
       (t.0, eqb-true _ _ t.1)
 
 digit_character : (x : ℕ) → Character (last_digit x)
@@ -90,13 +89,13 @@ module _ (g : ℕ) (group : g < 9) where
 
   letter_range : (0x3F ≤ letter g) × (letter g < 0x5B)
   letter_range =
-      let t = and_both (leb 0x3F (letter g) && ltb (letter g) 0x5B) (eqb (group_of (256 * letter g + 0x52)) g || eqb g 6 || eqb g 7) letters_read_lem in
-      let u = and_both (leb 0x3F (letter g)) (ltb (letter g) 0x5B) t.0 in
+      let t = and_parts (leb 0x3F (letter g) && ltb (letter g) 0x5B) (eqb (group_of (256 * letter g + 0x52)) g || eqb g 6 || eqb g 7) letters_read_lem in
+      let u = and_parts (leb 0x3F (letter g)) (ltb (letter g) 0x5B) t.0 in
       (leb-true _ _ u.0, ltb-true _ _ u.1)
 
   group_reads : eqb g 6 ≡ false → eqb g 7 ≡ false → group_of (256 * letter g + 0x52) ≡ g
   group_reads x y =
-      let t = and_both (leb 0x3F (letter g) && ltb (letter g) 0x5B) (eqb (group_of (256 * letter g + 0x52)) g || eqb g 6 || eqb g 7) letters_read_lem in
+      let t = and_parts (leb 0x3F (letter g) && ltb (letter g) 0x5B) (eqb (group_of (256 * letter g + 0x52)) g || eqb g 6 || eqb g 7) letters_read_lem in
       go (eqb (group_of (256 * letter g + 0x52)) g) refl (rw (x, y) at t.1)
     where
       go : (b : Bool) → eqb (group_of (256 * letter g + 0x52)) g ≡ b → (b || false || false) ≡ true → group_of (256 * letter g + 0x52) ≡ g
@@ -135,12 +134,12 @@ module _ (g i : ℕ) (named : names g i ≡ true) where
   no_index_lem : 6 ≤ g → g < 8 → i ≡ 0
   no_index_lem low high = eqb-true _ _ (sym (names-single g i low high) ∙ named)
 
-  name_reads : i < 256 → name_of (name_word g i) ≡ Of g i
+  name_reads : i < 256 → name_of (name_word g i) ≡ Some (register_name g i)
   unfolding name_of indexed
   name_reads byte = go (eqb g 6) refl (eqb g 7) refl
     where
       go : (x : Bool) → eqb g 6 ≡ x → (y : Bool) → eqb g 7 ≡ y
-          → name_of (cond x 0x4D5352 (cond y 0x50414C4D41534B (65536 * (256 * letter g + 0x52) + pair i))) ≡ Of g i
+          → name_of (cond x 0x4D5352 (cond y 0x50414C4D41534B (65536 * (256 * letter g + 0x52) + pair i))) ≡ Some (register_name g i)
       go true e y f =
           let is : g ≡ 6 = eqb-true _ _ e in
           let none : i ≡ 0 = no_index_lem (omega arith) (omega arith) in
@@ -208,13 +207,13 @@ words_colour e r g b =
     ∙ word-ends 4 (pair b) (set f 3 (pair g)) (some_pair b) (omega arith)
 
 -- a legal step's words say the step
-words_say : (s : Step) → legal s ≡ true → Bytes (bytes_of s) → said (tokens_of (step_text s)) ≡ Is s
+words_say : (s : Step) → legal s ≡ true → Bytes (bytes_of s) → said (tokens_of (step_text s)) ≡ Ok (Some s)
 unfolding step_text said step_of set_of field_of colour_of legal bytes_of
 words_say (Set g i v) ok bytes =
     let p = pair_reads v (bytes 3) in
     ap said (words-set g i (named_group g i ok) v) ∙ rw (name_reads g i ok (bytes 2), p.0, p.1)
 words_say (Field g i v m) ok bytes =
-    let t = and_both _ _ ok in
+    let t = and_parts _ _ ok in
     let p = pair_reads v (bytes 3) in
     let q = pair_reads m (bytes 4) in
     ap said (words_field g i (named_group g i t.0) v m) ∙ rw (name_reads g i t.0 (bytes 2), p.0, p.1, q.0, q.1)
@@ -226,6 +225,6 @@ words_say (Colour e r g b) ok bytes =
     ap said (words_colour e r g b) ∙ rw (p.0, p.1, q.0, q.1, x.0, x.1, y.0, y.1)
 
 -- a legal step of bytes, written, reads back
-pub reads_back : (s : Step) → legal s ≡ true → Bytes (bytes_of s) → line_of (step_text s) ≡ Is s
+pub reads_back : (s : Step) → legal s ≡ true → Bytes (bytes_of s) → line_of (step_text s) ≡ Ok (Some s)
 unfolding line_of
 reads_back s ok bytes = ap (λ (l : List ℕ). said (tokens_of l)) (no_comment true (step_text s) (step_plain s ok)) ∙ words_say s ok bytes

@@ -2,131 +2,132 @@
 // definitions are specs/Written and specs/Reading; that a written step reads back as itself is proofs/ReadBack.
 #![tactic(auto)]
 
-ghost use Rattle.std.specs.Prelude.{◌≡◌, ◌+◌, ◌≤◌, true, length, take};
+ghost use Rattle.std.specs.Prelude.{◌≡◌, ◌+◌, ◌≤◌, true, false, length, take, ltb, MatchOption, MatchResult};
 ghost use Rattle.lists.specs.Put.{Added};
 ghost use Rattle.text.specs.Adding.{AddedIn};
+ghost use Rattle.text_tokens.specs.Hex.{is_byte, byte_of};
+ghost use Rattle.text_steps.specs.declared.NotAStep.TheVariants.{Other};
 ghost use Rattle.text_steps.specs.Written.{letter, name_text, byte_text, step_text, step_line};
 ghost use Rattle.text_steps.specs.Reading.{group_of, indexed, name_of, set_of, field_of, colour_of, step_of, said, before_comment, line_of};
 
 use script_steps::Step;
-use text::{add, digit};
+use text::{add, add_byte, digit};
 use text_tokens::{Tokens, byte_of, is_byte, tokens_of};
 
-// A register's name: its group and index, or a word that names none.
+// A register's name: its group and its index.
 #[derive(Clone, Copy)]
-pub enum Name {
-    Of(u8, u8),
-    None,
+pub struct Name {
+    pub group: u8,
+    pub index: u8,
 }
 
-// What a line says: nothing, a step, or what is of another form.
+// A line of words that are no step: an enum, as the other errors are.
 #[derive(Clone, Copy)]
-pub enum Line {
-    Pass,
-    Is(Step),
+pub enum NotAStep {
     Other,
 }
 
-// The group of two letters, 9 where there is none.
-fn group_of(letters: u64) -> u8
-    ensures { result ≡ group_of letters }
+// The group of two letters.
+#[tactic(auto, unfolding(crate::specs::Reading::group_of))]
+fn group_of(letters: u64) -> Option<u8>
+    ensures { MatchOption result (ltb (group_of letters) 9 ≡ false) (λ g. (g ≡ group_of letters) × (ltb g 9 ≡ true)) }
 {
     match letters {
-        0x4352 => 0,
-        0x5352 => 1,
-        0x4752 => 2,
-        0x5852 => 3,
-        0x4652 => 4,
-        0x4D52 => 5,
-        0x4152 => 8,
-        _ => 9,
+        0x4352 => Some(0),
+        0x5352 => Some(1),
+        0x4752 => Some(2),
+        0x5852 => Some(3),
+        0x4652 => Some(4),
+        0x4D52 => Some(5),
+        0x4152 => Some(8),
+        _ => None,
     }
+}
+
+// A word of two digits as a byte.
+fn byte(word: u64) -> Result<u8, NotAStep>
+    ensures { MatchResult result (λ b. (is_byte word ≡ true) × (b ≡ byte_of word)) (λ e. (is_byte word ≡ false) × (e ≡ Other)) }
+{
+    if is_byte(word) {
+        return Ok(byte_of(word));
+    }
+    Err(NotAStep::Other)
 }
 
 // Two letters and two digits.
-fn indexed_name(letters: u64, digits: u64) -> Name
+#[tactic(auto, unfolding(crate::specs::Reading::indexed))]
+fn indexed_name(letters: u64, digits: u64) -> Option<Name>
     ensures { result ≡ indexed letters digits }
 {
-    let group = group_of(letters);
-    let index = byte_of(digits);
-    if is_byte(digits) & (group < 9) {
-        return Name::Of(group, index);
-    }
-    Name::None
+    let group = group_of(letters)?;
+    let index = byte(digits).ok()?;
+    Some(Name { group, index })
 }
 
 // A word read as a register's name.
-pub fn name_of(word: u64) -> Name
+#[tactic(auto, unfolding(crate::specs::Reading::name_of))]
+pub fn name_of(word: u64) -> Option<Name>
     ensures { result ≡ name_of word }
 {
     if word == 0x4D5352 {
-        return Name::Of(6, 0);
+        return Some(Name { group: 6, index: 0 });
     }
     if word == 0x50414C4D41534B {
-        return Name::Of(7, 0);
+        return Some(Name { group: 7, index: 0 });
     }
     indexed_name(word / 65536, word % 65536)
 }
 
 // A name and a byte.
-fn set_of(name: Name, value: u64) -> Line
+#[tactic(auto, unfolding(crate::specs::Reading::set_of))]
+fn set_of(name: Option<Name>, value: u64) -> Result<Option<Step>, NotAStep>
     ensures { result ≡ set_of name value }
 {
-    let Name::Of(group, index) = name else {
-        return Line::Other;
-    };
-    let byte = byte_of(value);
-    if is_byte(value) {
-        return Line::Is(Step::Set {
-            group,
-            index,
-            value: byte,
-        });
-    }
-    Line::Other
+    let Name { group, index } = name.ok_or(NotAStep::Other)?;
+    let value = byte(value)?;
+    Ok(Some(Step::Set {
+        group,
+        index,
+        value,
+    }))
 }
 
 // A name, the mask and the value.
-fn field_of(name: Name, mask: u64, value: u64) -> Line
+#[tactic(auto, unfolding(crate::specs::Reading::field_of))]
+fn field_of(name: Option<Name>, mask: u64, value: u64) -> Result<Option<Step>, NotAStep>
     ensures { result ≡ field_of name mask value }
 {
-    let Name::Of(group, index) = name else {
-        return Line::Other;
-    };
-    let bits = byte_of(mask);
-    let byte = byte_of(value);
-    if is_byte(mask) & is_byte(value) {
-        return Line::Is(Step::Field {
-            group,
-            index,
-            value: byte,
-            mask: bits,
-        });
-    }
-    Line::Other
+    let Name { group, index } = name.ok_or(NotAStep::Other)?;
+    let mask = byte(mask)?;
+    let value = byte(value)?;
+    Ok(Some(Step::Field {
+        group,
+        index,
+        value,
+        mask,
+    }))
 }
 
 // Four bytes.
-fn colour_of(entry: u64, red: u64, green: u64, blue: u64) -> Line
+#[tactic(auto, unfolding(crate::specs::Reading::colour_of))]
+fn colour_of(entry: u64, red: u64, green: u64, blue: u64) -> Result<Option<Step>, NotAStep>
     ensures { result ≡ colour_of entry red green blue }
 {
-    let e = byte_of(entry);
-    let r = byte_of(red);
-    let g = byte_of(green);
-    let b = byte_of(blue);
-    if is_byte(entry) & is_byte(red) & is_byte(green) & is_byte(blue) {
-        return Line::Is(Step::Colour {
-            entry: e,
-            red: r,
-            green: g,
-            blue: b,
-        });
-    }
-    Line::Other
+    let entry = byte(entry)?;
+    let red = byte(red)?;
+    let green = byte(green)?;
+    let blue = byte(blue)?;
+    Ok(Some(Step::Colour {
+        entry,
+        red,
+        green,
+        blue,
+    }))
 }
 
 // A line's words read as a step.
-pub fn step_of(w: Tokens) -> Line
+#[tactic(auto, unfolding(crate::specs::Reading::step_of))]
+pub fn step_of(w: Tokens) -> Result<Option<Step>, NotAStep>
     ensures { result ≡ step_of w }
 {
     let a = w.at;
@@ -139,16 +140,17 @@ pub fn step_of(w: Tokens) -> Line
     if (a[0] == 0x434F4C4F5552) & (a[5] == 0) {
         return colour_of(a[1], a[2], a[3], a[4]);
     }
-    Line::Other
+    Err(NotAStep::Other)
 }
 
 // What words say, if there are any.
-fn say(w: Tokens) -> Line
+#[tactic(auto, unfolding(crate::specs::Reading::said))]
+fn say(w: Tokens) -> Result<Option<Step>, NotAStep>
     ensures { result ≡ said w }
 {
     let a = w.at;
     if a[0] == 0 {
-        return Line::Pass;
+        return Ok(None);
     }
     step_of(w)
 }
@@ -158,20 +160,18 @@ fn comment_start(line: &[u8]) -> usize
     ensures { (result ≤ length line.now) × (take result line.now ≡ before_comment true line.now) }
 {
     let mut free = true;
-    let mut i = 0;
-    while i < line.len() {
-        let c = line[i];
-        if free & (c == 0x23) {
+    for (i, c) in line.iter().enumerate() {
+        if free & (*c == b'#') {
             return i;
         }
-        free = c < 0x21;
-        i += 1;
+        free = *c < 0x21;
     }
-    i
+    line.len()
 }
 
 // A line read.
-pub fn read_line(line: &[u8]) -> Line
+#[tactic(auto, unfolding(crate::specs::Reading::line_of))]
+pub fn read_line(line: &[u8]) -> Result<Option<Step>, NotAStep>
     ensures { result ≡ line_of line.now }
 {
     let end = comment_start(line);
@@ -179,6 +179,7 @@ pub fn read_line(line: &[u8]) -> Line
 }
 
 // The first letter of an indexed group.
+#[tactic(auto, unfolding(crate::specs::Written::letter))]
 fn letter_of(group: u8) -> u8
     ensures { result ≡ letter group }
 {
@@ -195,6 +196,7 @@ fn letter_of(group: u8) -> u8
 }
 
 // A register's name behind what stands in an output.
+#[tactic(auto, unfolding(crate::specs::Written::name_text))]
 fn put_name(out: &mut [u8], at: usize, group: u8, index: u8) -> usize
     requires { at + 7 ≤ length out.old }
     ensures { Added out.old at (name_text group index) out.new result }
@@ -207,16 +209,6 @@ fn put_name(out: &mut [u8], at: usize, group: u8, index: u8) -> usize
     }
     let i = index as u16;
     let text = [letter_of(group), b'R', digit(i / 16), digit(i)];
-    add(out, at, &text)
-}
-
-// A space and a byte.
-fn put_byte(out: &mut [u8], at: usize, value: u8) -> usize
-    requires { at + 3 ≤ length out.old }
-    ensures { Added out.old at (byte_text value) out.new result }
-{
-    let v = value as u16;
-    let text = [b' ', digit(v / 16), digit(v)];
     add(out, at, &text)
 }
 
@@ -233,7 +225,7 @@ fn put_step(out: &mut [u8], at: usize, step: Step) -> usize
         } => {
             let name = add(out, at, b"SET ");
             let byte = put_name(out, name, group, index);
-            put_byte(out, byte, value)
+            add_byte(out, byte, value)
         }
         Step::Field {
             group,
@@ -243,8 +235,8 @@ fn put_step(out: &mut [u8], at: usize, step: Step) -> usize
         } => {
             let name = add(out, at, b"FIELD ");
             let bits = put_name(out, name, group, index);
-            let byte = put_byte(out, bits, mask);
-            put_byte(out, byte, value)
+            let byte = add_byte(out, bits, mask);
+            add_byte(out, byte, value)
         }
         Step::Colour {
             entry,
@@ -253,10 +245,10 @@ fn put_step(out: &mut [u8], at: usize, step: Step) -> usize
             blue,
         } => {
             let e = add(out, at, b"COLOUR");
-            let r = put_byte(out, e, entry);
-            let g = put_byte(out, r, red);
-            let b = put_byte(out, g, green);
-            put_byte(out, b, blue)
+            let r = add_byte(out, e, entry);
+            let g = add_byte(out, r, red);
+            let b = add_byte(out, g, green);
+            add_byte(out, b, blue)
         }
     }
 }

@@ -1,7 +1,7 @@
 -- What an answer of `compose` can be. A line that it reports is not fine; the steps that it gathers pass and are at most 1,008,
 -- so that the writer refuses them for two reasons alone: there is none, or there is too little room, which 6,144 bytes always
 -- are.
-use Prim.Native.Nat.{ℕ, ◌+◌, ◌*◌, ◌/◌, ◌≤◌, ◌<◌}
+use Prim.Native.Nat.{ℕ, zero, suc, ◌+◌, ◌*◌, ◌/◌, ◌≤◌, ◌<◌}
 use native.Mathlib.Omega.{arith}
 use native.Mathlib.Decide.{ℕ_discrete, dec_lt}
 use mathlib.Core.Bool.{Bool, true, false, cond, false≢true}
@@ -9,15 +9,13 @@ use mathlib.Core.Logic.{◌⊎◌, inl, inr}
 use mathlib.Core.Path.{◌≡◌, refl, sym, ap, ◌∙◌}
 use mathlib.Core.List.{List, [], ◌∷◌, ◌++◌}
 use lib.Dec.{ltb}
-use lib.ListN.{length, take, drop, length-append, length-drop}
+use lib.ListN.{length, get_or, take, drop, length-append, length-drop}
 use lib.Seq.{take_all, take-append-le, drop-append-le, drop-append_seam}
 use borrow.Author.Tests.{ltb-true}
 use Rattle.lists.proofs.Scan.{first_end}
 use Rattle.lists.proofs.Tests.{units_test}
 use Rattle.script_steps.specs.Step.{bytes_of, step_of, judged, is_good}
 use Rattle.script_steps.specs.declared.Step.{Step}
-use Rattle.script_steps.specs.declared.StepRead.{StepRead}
-use Rattle.script_steps.specs.declared.StepRead.TheVariants.{Good, Refused as NoStep}
 use Rattle.script_steps.proofs.Codec.{read-written, bytes-length}
 use Rattle.script_steps.proofs.Lawful.{good_passes}
 use Rattle.script.specs.File.{step_at, first_bad_step}
@@ -25,17 +23,17 @@ use Rattle.script.specs.declared.Layout.TheVariants.{Plain}
 use Rattle.script.specs.declared.Refusal.{Refusal}
 use Rattle.script.specs.declared.Refusal.TheVariants.{Length, Block, Step as IsStep, Room}
 use Rattle.text_steps.specs.Reading.{line_of}
-use Rattle.text_steps.specs.declared.Line.{Line}
-use Rattle.text_steps.specs.declared.Line.TheVariants.{Pass, Is, Other}
 use Rattle.script_writer.specs.Write.{whole_steps, blocks_for, written}
-use Rattle.script_writer.specs.declared.Written.{Written}
-use Rattle.script_writer.specs.declared.Written.TheVariants.{Blocks as InBlocks, Refused as NotWritten}
 use Rattle.script_writer.proofs.Writing.{BadStep, answer_says}
 use Rattle.text_to_script.specs.Lines.{text_lines}
 use Rattle.text_to_script.specs.Compose.{step_verdict, verdict, with_line, or_stop, of_writer, composed_from, composed, gathered}
-use Rattle.text_to_script.specs.declared.Verdict.{Verdict}
-use Rattle.text_to_script.specs.declared.Verdict.TheVariants.{Fine, Form, Step as Faulty, Many}
-use Rattle.text_to_script.specs.declared.Composed.TheVariants.{Stopped, Refused}
+use Rattle.std.specs.Prelude.{Result, Option, Ok, Err, Some, None}
+use Rattle.script_steps.specs.declared.Fault.{Fault}
+use Rattle.text_steps.specs.declared.NotAStep.{NotAStep}
+use Rattle.text_steps.specs.declared.NotAStep.TheVariants.{Other}
+use Rattle.text_to_script.specs.declared.LineError.{LineError}
+use Rattle.text_to_script.specs.declared.LineError.TheVariants.{Many}
+use Rattle.text_to_script.specs.declared.ComposeError.TheVariants.{Stopped, Refused as NotWritten}
 
 -- ---- steps that all pass, and are not too many
 record Gathered (s : List ℕ) : Type 0 where
@@ -46,14 +44,14 @@ record Gathered (s : List ℕ) : Type 0 where
 no_steps : Gathered []
 no_steps = record { whole = refl; few = omega arith; each = λ j h. absurd (omega arith) }
 
-module _ (s : List ℕ) (g : Gathered s) (x : Step) (ok : judged x ≡ Good x) (room : length s < 6048) where
+module _ (s : List ℕ) (g : Gathered s) (x : Step) (ok : judged x ≡ Ok x) (room : length s < 6048) where
   -- a step that stood there, and the new one
   stays : (j : ℕ) → 6 * j + 6 ≤ length s → step_at Plain (s ++ bytes_of x) j ≡ step_at Plain s j
   stays j h =
       ap (λ (l : List ℕ). step_of (take 6 l)) (drop-append-le (6 * j) s (bytes_of x) (omega arith))
       ∙ ap step_of (take-append-le 6 (drop (6 * j) s) (bytes_of x) (omega (arith, length-drop (6 * j) s)))
 
-  added : step_at Plain (s ++ bytes_of x) (length s / 6) ≡ Good x
+  added : step_at Plain (s ++ bytes_of x) (length s / 6) ≡ Ok x
   added =
       let at : 6 * (length s / 6) ≡ length s = sym g.whole in
       ap (λ (k : ℕ). step_of (take 6 (drop k (s ++ bytes_of x)))) at
@@ -80,18 +78,18 @@ module _ (s : List ℕ) (g : Gathered s) (x : Step) (ok : judged x ≡ Good x) (
           ap (λ (k : ℕ). is_good (step_at Plain (s ++ bytes_of x) k)) last ∙ ap is_good added
 
 -- a line that is fine keeps them so
-line-more : (l : Line) (s : List ℕ) → Gathered s → verdict l (length s) ≡ Fine → Gathered (with_line l s)
-line-more Pass s g e = g
-line-more Other s g e = g
-line-more (Is x) s g e = go (judged x) refl e
+line-more : (l : Result (Option Step) NotAStep) (s : List ℕ) → Gathered s → verdict l (length s) ≡ Ok tt → Gathered (with_line l s)
+line-more (Ok None) s g e = g
+line-more (Err Other) s g e = g
+line-more (Ok (Some x)) s g e = go (judged x) refl e
   where
-    few : (q : Step) → judged x ≡ Good q → (b : Bool) → ltb (length s) 6048 ≡ b → cond b Fine Many ≡ Fine → Gathered (s ++ bytes_of x)
-    few q ok true room t = step-more s g x (ok ∙ ap Good (sym (good_passes x q ok).0)) (ltb-true _ _ room)
+    few : (q : Step) → judged x ≡ Ok q → (b : Bool) → ltb (length s) 6048 ≡ b → cond {A = Result (Unit {0}) LineError} b (Ok tt) (Err Many) ≡ Ok tt → Gathered (s ++ bytes_of x)
+    few q ok true room t = step-more s g x (ok ∙ ap Ok (sym (good_passes x q ok).0)) (ltb-true _ _ room)
     few q ok false room t = absurd (let z : ◌≡◌ {A = ℕ} 0 1 = cc in omega arith)
 
-    go : (r : StepRead) → judged x ≡ r → step_verdict r (length s) ≡ Fine → Gathered (s ++ bytes_of x)
-    go (Good q) ok t = few q ok (ltb (length s) 6048) refl t
-    go (NoStep why) ok t = absurd (let z : ◌≡◌ {A = ℕ} 0 1 = cc in omega arith)
+    go : (r : Result Step Fault) → judged x ≡ r → step_verdict r (length s) ≡ Ok tt → Gathered (s ++ bytes_of x)
+    go (Ok q) ok t = few q ok (ltb (length s) 6048) refl t
+    go (Err why) ok t = absurd (let z : ◌≡◌ {A = ℕ} 0 1 = cc in omega arith)
 
 -- ---- what the writer can then refuse
 abbrev pub Reason : List ℕ → ℕ → Refusal → Type 0
@@ -108,7 +106,7 @@ module _ (s : List ℕ) (g : Gathered s) (room : ℕ) where
       let whole : whole_steps s ≡ true = units_test 6 1008 (length s) (record { even = omega arith; some = omega arith; few = omega arith }) in
       absurd (false≢true (sym w ∙ whole))
 
-  reasons : (r : Refusal) → written s room ≡ NotWritten r → Reason s room r
+  reasons : (r : Refusal) → written s room ≡ Err r → Reason s room r
   reasons Length e = inl (refl, empty s (none_left (ℕ_discrete (length s) 0) (answer_says s room e)))
   reasons (Block k) e = absurd (answer_says s room e)
   reasons (IsStep j why) e =
@@ -120,44 +118,56 @@ module _ (s : List ℕ) (g : Gathered s) (room : ℕ) where
       inr (refl, omega arith)
 
 -- ---- the answers
-answers : (ls : List (List ℕ)) (k : ℕ) (s : List ℕ) → Gathered s → (room : ℕ) (r : Refusal) → composed_from k s ls room ≡ Refused r → Reason (gathered s ls) room r
+answers : (ls : List (List ℕ)) (k : ℕ) (s : List ℕ) → Gathered s → (room : ℕ) (r : Refusal) → composed_from k s ls room ≡ Err (NotWritten r) → Reason (gathered s ls) room r
 unfolding composed_from gathered
 answers [] k s g room r e = go (written s room) refl e
   where
-    go : (w : Written) → written s room ≡ w → of_writer w ≡ Refused r → Reason s room r
-    go (InBlocks n) is t = absurd (let z : ◌≡◌ {A = ℕ} 0 1 = cc in omega arith)
-    go (NotWritten q) is t = let same : q ≡ r = cc in rw same at (reasons s g room q is)
+    go : (w : Result ℕ Refusal) → written s room ≡ w → of_writer w ≡ Err (NotWritten r) → Reason s room r
+    go (Ok n) is t = absurd (let z : ◌≡◌ {A = ℕ} 0 1 = cc in omega arith)
+    go (Err q) is t = let same : q ≡ r = cc in rw same at (reasons s g room q is)
 answers (l ∷ ls) k s g room r e =
     go (verdict (line_of l) (length s)) refl (λ fine. answers ls (k + 1) (with_line (line_of l) s) (line-more (line_of l) s g fine) room r) e
   where
-    go : (v : Verdict) → verdict (line_of l) (length s) ≡ v
-        → (verdict (line_of l) (length s) ≡ Fine → composed_from (k + 1) (with_line (line_of l) s) ls room ≡ Refused r → Reason (gathered (with_line (line_of l) s) ls) room r)
-        → or_stop v k (composed_from (k + 1) (with_line (line_of l) s) ls room) ≡ Refused r → Reason (gathered (with_line (line_of l) s) ls) room r
-    go Fine is rest t = rest is t
-    go Form is rest t = absurd (let z : ◌≡◌ {A = ℕ} 0 1 = cc in omega arith)
-    go (Faulty why) is rest t = absurd (let z : ◌≡◌ {A = ℕ} 0 1 = cc in omega arith)
-    go Many is rest t = absurd (let z : ◌≡◌ {A = ℕ} 0 1 = cc in omega arith)
+    go : (v : Result (Unit {0}) LineError) → verdict (line_of l) (length s) ≡ v
+        → (verdict (line_of l) (length s) ≡ Ok tt → composed_from (k + 1) (with_line (line_of l) s) ls room ≡ Err (NotWritten r) → Reason (gathered (with_line (line_of l) s) ls) room r)
+        → or_stop v k (composed_from (k + 1) (with_line (line_of l) s) ls room) ≡ Err (NotWritten r) → Reason (gathered (with_line (line_of l) s) ls) room r
+    go (Ok tt) is rest t = rest is t
+    go (Err why) is rest t = absurd (let z : ◌≡◌ {A = ℕ} 0 1 = cc in omega arith)
 
 -- a text whose lines are all fine is refused for having no step, 8, or for too little room, 9; in 6,144 bytes for no step alone
-pub refused_why : (text : List ℕ) (room : ℕ) (r : Refusal) → composed text room ≡ Refused r → Reason (gathered [] (text_lines text)) room r
+pub refused_why : (text : List ℕ) (room : ℕ) (r : Refusal) → composed text room ≡ Err (NotWritten r) → Reason (gathered [] (text_lines text)) room r
 refused_why text room r e = answers (text_lines text) 0 [] no_steps room r e
 
--- a line that is reported is not fine
-stopped-bad : (ls : List (List ℕ)) (k : ℕ) (s : List ℕ) (room n : ℕ) → composed_from k s ls room ≡ Stopped Fine n → ⊥
-unfolding composed_from
-stopped-bad [] k s room n e = go (written s room) e
-  where
-    go : (w : Written) → of_writer w ≡ Stopped Fine n → ⊥
-    go (InBlocks m) t = let z : ◌≡◌ {A = ℕ} 0 1 = cc in omega arith
-    go (NotWritten q) t = let z : ◌≡◌ {A = ℕ} 0 1 = cc in omega arith
-stopped-bad (l ∷ ls) k s room n e = go (verdict (line_of l) (length s)) (stopped-bad ls (k + 1) (with_line (line_of l) s) room n) e
-  where
-    go : (v : Verdict) → (composed_from (k + 1) (with_line (line_of l) s) ls room ≡ Stopped Fine n → ⊥)
-        → or_stop v k (composed_from (k + 1) (with_line (line_of l) s) ls room) ≡ Stopped Fine n → ⊥
-    go Fine rest t = rest t
-    go Form rest t = let z : ◌≡◌ {A = ℕ} 0 1 = cc in omega arith
-    go (Faulty why) rest t = let z : ◌≡◌ {A = ℕ} 0 1 = cc in omega arith
-    go Many rest t = let z : ◌≡◌ {A = ℕ} 0 1 = cc in omega arith
+-- a line that is reported is not fine: what is reported of it is its verdict behind the steps of the lines before it
+record Reported (ls : List (List ℕ)) (s : List ℕ) (j : ℕ) (e : LineError) : Type 0 where
+  pub line : j < length ls
+  pub why : verdict (line_of (get_or ls j [])) (length (gathered s (take j ls))) ≡ Err e
 
-pub stopped-why : (text : List ℕ) (room n : ℕ) → composed text room ≡ Stopped Fine n → ⊥
-stopped-why text room n e = stopped-bad (text_lines text) 0 [] room n e
+stopped-bad : (ls : List (List ℕ)) (k : ℕ) (s : List ℕ) (room n : ℕ) (e : LineError) → composed_from k s ls room ≡ Err (Stopped e n)
+    → (j : ℕ) × (n ≡ k + j) × Reported ls s j e
+unfolding composed_from gathered
+stopped-bad [] k s room n e is = absurd (go (written s room) is)
+  where
+    go : (w : Result ℕ Refusal) → of_writer w ≡ Err (Stopped e n) → ⊥
+    go (Ok m) t = let z : ◌≡◌ {A = ℕ} 0 1 = cc in omega arith
+    go (Err q) t = let z : ◌≡◌ {A = ℕ} 0 1 = cc in omega arith
+stopped-bad (l ∷ ls) k s room n e is = go (verdict (line_of l) (length s)) refl (stopped-bad ls (k + 1) (with_line (line_of l) s) room n e) is
+  where
+    more : (j : ℕ) × (n ≡ k + 1 + j) × Reported ls (with_line (line_of l) s) j e → (j : ℕ) × (n ≡ k + j) × Reported (l ∷ ls) s j e
+    more (j, at, found) = (suc j, omega arith, record { line = omega (arith, found.line); why = found.why })
+
+    go : (v : Result (Unit {0}) LineError) → verdict (line_of l) (length s) ≡ v
+        → (composed_from (k + 1) (with_line (line_of l) s) ls room ≡ Err (Stopped e n) → (j : ℕ) × (n ≡ k + 1 + j) × Reported ls (with_line (line_of l) s) j e)
+        → or_stop v k (composed_from (k + 1) (with_line (line_of l) s) ls room) ≡ Err (Stopped e n) → (j : ℕ) × (n ≡ k + j) × Reported (l ∷ ls) s j e
+    go (Ok tt) here rest t = more (rest t)
+    go (Err why) here rest t =
+        let same : why ≡ e = cc in
+        let at : k ≡ n = cc in
+        (zero, omega arith, record { line = omega arith; why = here ∙ ap Err same })
+
+pub stopped-why : (text : List ℕ) (room n : ℕ) (e : LineError) → composed text room ≡ Err (Stopped e n)
+    → (n < length (text_lines text)) × (verdict (line_of (get_or (text_lines text) n [])) (length (gathered [] (take n (text_lines text)))) ≡ Err e)
+stopped-why text room n e is =
+    let (j, at, found) = stopped-bad (text_lines text) 0 [] room n e is in
+    let same : j ≡ n = omega arith in
+    (rw same at found.line, rw same at found.why)

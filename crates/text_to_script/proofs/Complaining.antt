@@ -9,10 +9,11 @@ use Rattle.text.proofs.Adding.{placed_most}
 use Rattle.text_refusals.specs.Complaint.{reason}
 use Rattle.text_refusals.proofs.Lengths.{reason_most}
 use Rattle.script.specs.Numbers.{of_refusal}
-use Rattle.text_to_script.specs.Compose.{verdict_number}
+use Rattle.text_to_script.specs.Compose.{line_error_number}
 use Rattle.text_to_script.specs.Complaint.{line_number, wrong, stopped_place, complaint}
-use Rattle.text_to_script.specs.declared.Composed.{Composed}
-use Rattle.text_to_script.specs.declared.Composed.TheVariants.{Blocks, Stopped, Refused}
+use Rattle.std.specs.Prelude.{Result, Ok, Err}
+use Rattle.text_to_script.specs.declared.ComposeError.{ComposeError}
+use Rattle.text_to_script.specs.declared.ComposeError.TheVariants.{Stopped, Refused as NotWritten}
 
 pub wrong_most : (n : ℕ) → length (wrong n) ≤ 91
 unfolding wrong
@@ -25,10 +26,10 @@ wrong_most n = go (eqb n 0)
 pub place_most : (k : ℕ) → length (stopped_place k) ≤ 36
 place_most k = placed_most (ascii "compose: line ") (line_number k)
 
-pub complaint_most : (c : Composed) → length (complaint c) ≤ 128
+pub complaint_most : (c : Result ℕ ComposeError) → length (complaint c) ≤ 128
 unfolding complaint
-complaint_most (Blocks n) = omega arith
-complaint_most (Stopped v k) =
-    let e = length-append (stopped_place k) (wrong (verdict_number v)) in
-    omega (arith, place_most k, wrong_most (verdict_number v))
-complaint_most (Refused r) = omega (arith, reason_most (of_refusal r).number)
+complaint_most (Ok n) = omega arith
+complaint_most (Err (Stopped v k)) =
+    let e = length-append (stopped_place k) (wrong (line_error_number v)) in
+    omega (arith, place_most k, wrong_most (line_error_number v))
+complaint_most (Err (NotWritten r)) = omega (arith, reason_most (of_refusal r).number)

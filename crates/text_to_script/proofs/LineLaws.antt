@@ -52,6 +52,3 @@ module _ (t : List ℕ) (from i : ℕ) (after : from ≤ i) where
           within = omega arith;
           lines = sym going ∙ rw (none, past) (last_some (part t from i) (omega arith));
         }
-
-pub lines_begin : (t : List ℕ) (from : ℕ) → lines_from (part t from from) (drop from t) ≡ lines_of (drop from t)
-lines_begin t from = let e : from - from ≡ 0 = omega arith in ap (λ (n : ℕ). lines_from (take n (drop from t)) (drop from t)) e

@@ -8,7 +8,7 @@ use mathlib.Core.List.{List, [], ◌∷◌, ◌++◌}
 use lib.Dec.{eqb}
 use lib.ListN.{length, get_or, drop}
 use borrow.Author.Tests.{ne_eqb, eqb-true}
-use Rattle.lists.proofs.Tests.{and_both}
+use Rattle.std.proofs.lemmas.Bool.{and_parts}
 use Rattle.text_to_script.specs.Lines.{lines_of, mark, mark_size, text_lines}
 use Rattle.text_to_script.specs.Compose.{composed_from, composed}
 
@@ -23,7 +23,7 @@ unfolding mark_size
 mark-within t = go (eqb (get_or t 0 0) 0xEF && eqb (get_or t 1 0) 0xBB && eqb (get_or t 2 0) 0xBF) refl
   where
     go : (b : Bool) → (eqb (get_or t 0 0) 0xEF && eqb (get_or t 1 0) 0xBB && eqb (get_or t 2 0) 0xBF) ≡ b → cond b 3 0 ≤ length t
-    go true e = third_within t (and_both (eqb (get_or t 0 0) 0xEF && eqb (get_or t 1 0) 0xBB) (eqb (get_or t 2 0) 0xBF) e).1
+    go true e = third_within t (and_parts (eqb (get_or t 0 0) 0xEF && eqb (get_or t 1 0) 0xBB) (eqb (get_or t 2 0) 0xBF) e).1
     go false e = omega arith
 
 pub mark-none : (t : List ℕ) → get_or t 0 0 < 0xEF → mark_size t ≡ 0

@@ -14,7 +14,7 @@ use Rattle.lists.specs.Put.{put}
 use Rattle.lists.specs.Tab.{Bytes}
 use Rattle.lists.proofs.Parts.{get_d_part}
 use Rattle.lists.proofs.Tab.{tab-length}
-use Rattle.lists.proofs.Tests.{and_both}
+use Rattle.std.proofs.lemmas.Bool.{and_parts}
 use Rattle.script_steps.specs.Step.{legal, bytes_of}
 use Rattle.script_steps.proofs.Lawful.{Passes, passes_good}
 use Rattle.script_steps.specs.declared.Step.{Step}
@@ -22,14 +22,10 @@ use Rattle.script_steps.specs.declared.Step.TheVariants.{Set, Field, Colour}
 use Rattle.script.specs.File.{blocks, step_place, step_count, checked}
 use Rattle.script.specs.Reader.{next_of}
 use Rattle.script.specs.declared.Layout.TheVariants.{Blocks as InFile}
-use Rattle.script.specs.declared.Checked.TheVariants.{Accepted}
-use Rattle.script.specs.declared.Next.{Next}
-use Rattle.script.specs.declared.Next.TheVariants.{Found, Refused as NoStep, End}
 use Rattle.script.proofs.Checking.{answer_says}
 use Rattle.script.proofs.Counting.{accepted_few}
 use Rattle.script.proofs.Reading.{accepted-handed}
 use Rattle.text_steps.specs.Written.{step_text, step_line}
-use Rattle.text_steps.specs.declared.Line.{Line}
 use Rattle.text_steps.proofs.Plain.{plain_character, plain, plain_other, step_plain}
 use Rattle.text_steps.proofs.ReadBack.{reads_back}
 use Rattle.text_from_script.specs.Show.{line_of_next, text_to, text_of}
@@ -38,15 +34,17 @@ use Rattle.script_writer.proofs.Again.{file_again}
 use Rattle.script_writer.proofs.RoundTrip.{read-written, written_read}
 use Rattle.text_to_script.specs.Lines.{lines_from, lines_of, text_lines}
 use Rattle.text_to_script.specs.Compose.{with_line, of_writer, composed_from, gathered, composed, file_of_text, left_by}
-use Rattle.text_to_script.specs.declared.Composed.TheVariants.{Blocks}
 use Rattle.text_to_script.proofs.MarkLaws.{mark-none, lines_unmarked}
+use Rattle.std.specs.Prelude.{Result, Option, Ok, Err, Some, None}
+use Rattle.script.specs.declared.Refusal.{Refusal}
+use Rattle.text_steps.specs.declared.NotAStep.{NotAStep}
 
 -- ---- a text without a line feed is a line of its own
 own_line : (b l r : List ℕ) → plain l ≡ true → lines_from b (l ++ (0x0A ∷ r)) ≡ (b ++ l) ∷ lines_of r
 unfolding lines_from
 own_line b [] r h = ap (λ (x : List ℕ). x ∷ lines_of r) (sym (append-nil b))
 own_line b (c ∷ cs) r h =
-    let t = and_both (plain_character c) (plain cs) h in
+    let t = and_parts (plain_character c) (plain cs) h in
     rw (ne_eqb c 0x0A (plain_other c t.0).0) (own_line (b ++ (c ∷ [])) cs r t.1 ∙ ap (λ (x : List ℕ). x ∷ lines_of r) (append_assoc b (c ∷ []) cs))
 
 step_lines : (s : Step) → legal s ≡ true → (r : List ℕ) → lines_of (step_line s ++ r) ≡ step_text s ∷ lines_of r
@@ -63,10 +61,10 @@ step_first (Set g i v) = omega arith
 step_first (Field g i v m) = omega arith
 step_first (Colour e r g b) = omega arith
 
-next_first : (x : Next) → get_or (line_of_next x) 0 0 < 0xEF
-next_first (Found s) = step_first s
-next_first (NoStep r) = omega arith
-next_first End = omega arith
+next_first : (x : Result (Option Step) Refusal) → get_or (line_of_next x) 0 0 < 0xEF
+next_first (Ok (Some s)) = step_first s
+next_first (Err r) = omega arith
+next_first (Ok None) = omega arith
 
 text-first : (f : List ℕ) (n : ℕ) → get_or (text_to f n) 0 0 < 0xEF
 unfolding text_to
@@ -83,7 +81,7 @@ module _ (s : Step) (ok : Passes s) (bytes : Bytes (bytes_of s)) (k : ℕ) (befo
   unfolding gathered
   line-gathers =
       ap (gathered before) (step_lines s ok.lawful r)
-      ∙ ap (λ (l : Line). gathered (with_line l before) (lines_of r)) (reads_back s ok.lawful bytes)
+      ∙ ap (λ (l : Result (Option Step) NotAStep). gathered (with_line l before) (lines_of r)) (reads_back s ok.lawful bytes)
 
 -- ---- the steps of an accepted file
 part_bytes : (f : List ℕ) (a : ℕ) → Bytes f → Bytes (take 6 (drop a f))
@@ -95,14 +93,14 @@ part_bytes f a bytes i = go (dec_lt i 6)
         let past : get_or (take 6 (drop a f)) i 0 ≡ 0 = get_or-eq_default (take 6 (drop a f)) 0 (omega (arith, length-take 6 (drop a f))) in
         omega arith
 
-module _ (f : List ℕ) (m : ℕ) (bytes : Bytes f) (acc : checked f ≡ Accepted m) where
+module _ (f : List ℕ) (m : ℕ) (bytes : Bytes f) (acc : checked f ≡ Ok m) where
   abbrev S : List ℕ
   S = steps_of f m
 
   -- step j, with its six bytes in the list of steps
   record There (j : ℕ) : Type 0 where
     step : Step
-    answer : next_of f j ≡ Found step
+    answer : next_of f j ≡ Ok (Some step)
     passes : Passes step
     in_bytes : Bytes (bytes_of step)
     six : take 6 (drop (6 * j) S) ≡ bytes_of step
@@ -119,7 +117,7 @@ module _ (f : List ℕ) (m : ℕ) (bytes : Bytes f) (acc : checked f ≡ Accepte
       let file : file_of S ≡ f = file_again f m bytes (answer_says f acc) in
       let x : Step = hand.step in
       let y : Step = same.step in
-      let found : Found y ≡ Found x = sym same.answer ∙ ap (λ (l : List ℕ). next_of l j) file ∙ hand.answer in
+      let found : Ok (Some y) ≡ Ok (Some x) = sym same.answer ∙ ap (λ (l : List ℕ). next_of l j) file ∙ hand.answer in
       let one : y ≡ x = cc in
       record {
         step = x;
@@ -141,7 +139,7 @@ module _ (f : List ℕ) (m : ℕ) (bytes : Bytes f) (acc : checked f ≡ Accepte
   text-split : (n : ℕ) → (h : n < m) → (r : List ℕ) → text_to f (suc n) ++ r ≡ text_to f n ++ (step_line (there n h).step ++ r)
   unfolding text_to
   text-split n h r =
-      ap (λ (x : Next). (text_to f n ++ line_of_next x) ++ r) (there n h).answer ∙ append_assoc (text_to f n) (step_line (there n h).step) r
+      ap (λ (x : Result (Option Step) Refusal). (text_to f n ++ line_of_next x) ++ r) (there n h).answer ∙ append_assoc (text_to f n) (step_line (there n h).step) r
 
   below : (n : ℕ) → n < m → length (take (6 * n) S) < 6048
   below n h = let e : length (take (6 * n) S) ≡ 6 * n = length-take-le (6 * n) S (omega (arith, size)) in omega (arith, few)
@@ -193,10 +191,10 @@ module _ (f : List ℕ) (m : ℕ) (bytes : Bytes f) (acc : checked f ≡ Accepte
 
 -- composing what is shown of an accepted file: its number of blocks is the answer, and the output then holds the file
 pub record SameAgain (f : List ℕ) (out : List ℕ) : Type 0 where
-  pub answer : composed (text_of f) (length out) ≡ Blocks (blocks f)
-  pub left : left_by (Blocks (blocks f)) (text_of f) out ≡ put out 0 f
+  pub answer : composed (text_of f) (length out) ≡ Ok (blocks f)
+  pub left : left_by (Ok (blocks f)) (text_of f) out ≡ put out 0 f
 
-pub same_file : (f : List ℕ) (m : ℕ) → Bytes f → checked f ≡ Accepted m → (out : List ℕ) → length f ≤ length out → SameAgain f out
+pub same_file : (f : List ℕ) (m : ℕ) → Bytes f → checked f ≡ Ok m → (out : List ℕ) → length f ≤ length out → SameAgain f out
 same_file f m bytes acc out h =
     let again = read-written f m bytes acc out h in
     record {

@@ -2,14 +2,14 @@
 -- editor counts them. `compose: line 3: not a step`, `compose: line 3: refused 11, a step can do nothing`, `compose: refused 8,
 -- not 1 to 12 whole blocks, or not 1 to 1008 steps`; of a file nothing is said. The words of a number are the crate
 -- text_refusals'. Room is asked for 128 bytes: no complaint is longer (proofs/Complaining).
-use Rattle.std.specs.Prelude.{ℕ, ◌+◌, ◌%◌, cond, List, [], ◌++◌, eqb}
+use Rattle.std.specs.Prelude.{ℕ, ◌+◌, ◌%◌, cond, List, [], ◌++◌, eqb, Result, Ok, Err}
 use Rattle.text.specs.Ascii.{ascii}
 use Rattle.text.specs.Refused.{placed}
 use Rattle.text_refusals.specs.Complaint.{reason}
 use Rattle.script.specs.Numbers.{of_refusal}
-use Rattle.text_to_script.specs.Compose.{verdict_number}
-use Rattle.text_to_script.specs.declared.Composed.{Composed}
-use Rattle.text_to_script.specs.declared.Composed.TheVariants.{Blocks, Stopped, Refused}
+use Rattle.text_to_script.specs.Compose.{line_error_number}
+use Rattle.text_to_script.specs.declared.ComposeError.{ComposeError}
+use Rattle.text_to_script.specs.declared.ComposeError.TheVariants.{Stopped, Refused as NotWritten}
 
 -- in 64 bits; no text is so long that it matters
 abbrev pub line_number : ℕ → ℕ
@@ -28,7 +28,7 @@ stopped_text number k = stopped_place k ++ wrong number
 abbrev pub refusal_text : ℕ → List ℕ
 refusal_text number = ascii "compose: " ++ reason number
 
-unfoldable pub complaint : Composed → List ℕ
-complaint (Blocks n) = []
-complaint (Stopped v k) = stopped_text (verdict_number v) k
-complaint (Refused r) = refusal_text (of_refusal r).number
+unfoldable pub complaint : Result ℕ ComposeError → List ℕ
+complaint (Ok n) = []
+complaint (Err (Stopped e k)) = stopped_text (line_error_number e) k
+complaint (Err (NotWritten r)) = refusal_text (of_refusal r).number

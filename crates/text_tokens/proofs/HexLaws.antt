@@ -8,10 +8,6 @@ use borrow.Author.Tests.{ne_eqb}
 use Rattle.text_tokens.specs.Hex.{digit_value, is_digit, all_digits, value_in}
 
 -- ---- a place more
-pub value_none : (w : ℕ) → value_in 0 w ≡ 0
-unfolding value_in
-value_none w = refl
-
 pub value-zero : (n : ℕ) → value_in n 0 ≡ 0
 unfolding value_in
 value-zero zero = refl

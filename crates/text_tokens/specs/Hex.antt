@@ -1,8 +1,6 @@
 -- Words that are hexadecimal numbers, in either case since letters are capitals by now: a byte of exactly two digits, and a
 -- number of one to eight. Laws are proofs/HexLaws.
-use Rattle.std.specs.Prelude.{ℕ, zero, suc, ◌+◌, ◌-◌, ◌*◌, ◌/◌, ◌%◌, Bool, cond, ◌&&◌, ◌||◌, ltb, eqb}
-use Rattle.text_tokens.specs.declared.Number.{Number}
-use Rattle.text_tokens.specs.declared.Number.TheVariants.{Of, Other}
+use Rattle.std.specs.Prelude.{ℕ, zero, suc, ◌+◌, ◌-◌, ◌*◌, ◌/◌, ◌%◌, Bool, cond, ◌&&◌, ◌||◌, ltb, eqb, Option, Some, None}
 
 -- the value of a digit, `0` to `9` and `A` to `F`, and 16 for any other character
 unfoldable pub digit_value : ℕ → ℕ
@@ -32,5 +30,5 @@ value_in zero word = 0
 value_in (suc n) word = cond (eqb word 0) 0 ((16 * value_in n (word / 256) + digit_value (word % 256)) % 4294967296)
 
 -- a word read as a number
-unfoldable pub number_of : ℕ → Number
-number_of word = cond (eqb word 0) Other (cond (all_digits 8 word) (Of (value_in 8 word)) Other)
+unfoldable pub number_of : ℕ → Option ℕ
+number_of word = cond (eqb word 0) None (cond (all_digits 8 word) (Some (value_in 8 word)) None)

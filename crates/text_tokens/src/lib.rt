@@ -2,12 +2,13 @@
 // specs/Hex.
 #![tactic(auto)]
 
-ghost use Rattle.std.specs.Prelude.{◌≡◌};
-ghost use Rattle.text_tokens.specs.Tokens.{capital, grown, ended, taken, tokens_of};
+ghost use Rattle.std.specs.Prelude.{◌≡◌, cond};
+ghost use Rattle.text_tokens.specs.Tokens.{grown, ended, taken, tokens_of};
 ghost use Rattle.text_tokens.specs.Hex.{digit_value, is_digit, is_byte, byte_of, all_digits, value_in, number_of};
 
 // The words of a line: how many, at most thirteen; the one that has begun, 0 between words; and each of them, 0 where there is
-// none.
+// none. A word is a number, its characters in base 256, and 1 for one of more than eight: so it is in specs/Tokens (`grown`,
+// `ended`), and a line's words stand in fixed memory.
 #[derive(Clone, Copy)]
 pub struct Tokens {
     pub count: usize,
@@ -15,78 +16,48 @@ pub struct Tokens {
     pub at: [u64; 13],
 }
 
-// A word read as a number of up to eight hexadecimal digits.
-#[derive(Clone, Copy)]
-pub enum Number {
-    Of(u32),
-    Other,
-}
-
-// A character as a capital.
-fn upper(c: u8) -> u8
-    ensures { result ≡ capital c }
-{
-    if c < 0x61 {
-        return c;
-    }
-    if c < 0x7B {
-        return c - 0x20;
-    }
-    c
-}
-
-// A word with one more character.
+// A word with one more character, as a capital.
+#[tactic(auto, unfolding(crate::specs::Tokens::grown))]
 fn grow(word: u64, c: u8) -> u64
     ensures { result ≡ grown word c }
 {
-    if word == 1 {
+    if (word == 1) | (0x0100_0000_0000_0000 <= word) {
         return 1;
     }
-    if 0x0100_0000_0000_0000 <= word {
-        return 1;
-    }
-    let last = upper(c) as u64;
-    256 * word + last
+    256 * word + c.to_ascii_uppercase() as u64
 }
 
 // The word that was begun is at its end.
+#[tactic(auto, unfolding(crate::specs::Tokens::ended))]
 fn finish(s: Tokens) -> Tokens
     ensures { result ≡ ended s }
 {
-    let mut at = s.at;
-    let n = s.count;
-    let word = s.begun;
-    if word == 0 {
+    if s.begun == 0 {
         return s;
     }
-    if 13 <= n {
-        return Tokens {
-            count: n,
-            begun: 0,
-            at,
-        };
+    if 13 <= s.count {
+        return Tokens { begun: 0, ..s };
     }
-    at[n] = word;
+    let mut at = s.at;
+    at[s.count] = s.begun;
     Tokens {
-        count: n + 1,
+        count: s.count + 1,
         begun: 0,
         at,
     }
 }
 
 // A character more of the line.
+#[tactic(auto, unfolding(crate::specs::Tokens::taken))]
 fn follow(s: Tokens, c: u8) -> Tokens
     ensures { result ≡ taken s c }
 {
     if c < 0x21 {
         return finish(s);
     }
-    let at = s.at;
-    let begun = grow(s.begun, c);
     Tokens {
-        count: s.count,
-        begun,
-        at,
+        begun: grow(s.begun, c),
+        ..s
     }
 }
 
@@ -99,15 +70,14 @@ pub fn tokens_of(line: &[u8]) -> Tokens
         begun: 0,
         at: [0; 13],
     };
-    let mut i = 0;
-    while i < line.len() {
-        s = follow(s, line[i]);
-        i += 1;
+    for c in line {
+        s = follow(s, *c);
     }
     finish(s)
 }
 
-// The value of a digit, and 16 for any other character.
+// The value of a digit, and 16 for any other character: the contract's definition has 16, which `byte_of` asks of any word.
+#[tactic(auto, unfolding(crate::specs::Hex::digit_value))]
 pub fn digit_value(c: u8) -> u8
     ensures { result ≡ digit_value c }
 {
@@ -134,6 +104,7 @@ fn is_digit(c: u8) -> bool
 }
 
 // Whether a word is two digits.
+#[tactic(auto, unfolding(crate::specs::Hex::is_byte))]
 pub fn is_byte(word: u64) -> bool
     ensures { result ≡ is_byte word }
 {
@@ -142,7 +113,8 @@ pub fn is_byte(word: u64) -> bool
     (word < 65536) & is_digit(high) & is_digit(low)
 }
 
-// The value of a word of two digits.
+// The value of a word of two digits; of any other word what the definition `byte_of` gives, so the test `is_byte` is apart.
+#[tactic(auto, unfolding(crate::specs::Hex::byte_of))]
 pub fn byte_of(word: u64) -> u8
     ensures { result ≡ byte_of word }
 {
@@ -151,46 +123,31 @@ pub fn byte_of(word: u64) -> u8
     ((16 * high + low) % 256) as u8
 }
 
-// Whether a word is at most n characters, all of them digits.
-fn all_digits(n: u8, word: u64) -> bool
-    ensures { result ≡ all_digits n word }
+// The value of a word of at most n characters, if all of them are digits; 0 where there is no word.
+fn value_in(n: u8, word: u64) -> Option<u32>
+    ensures { result ≡ cond (all_digits n word) (Some (value_in n word)) None }
 {
     if word == 0 {
-        return true;
+        return Some(0);
     }
     if n == 0 {
-        return false;
+        return None;
     }
-    if is_digit((word % 256) as u8) {
-        return all_digits(n - 1, word / 256);
-    }
-    false
-}
-
-// The value of a word of at most n digits.
-fn value_in(n: u8, word: u64) -> u32
-    ensures { result ≡ value_in n word }
-{
-    if n == 0 {
-        return 0;
-    }
-    if word == 0 {
-        return 0;
-    }
-    let front = value_in(n - 1, word / 256) as u64;
     let last = digit_value((word % 256) as u8) as u64;
-    ((16 * front + last) % 4294967296) as u32
+    if 16 <= last {
+        return None;
+    }
+    let front = value_in(n - 1, word / 256)? as u64;
+    Some(((16 * front + last) % 4294967296) as u32)
 }
 
 // A word read as a number of one to eight digits.
-pub fn number_of(word: u64) -> Number
+#[tactic(auto, unfolding(crate::specs::Hex::number_of))]
+pub fn number_of(word: u64) -> Option<u32>
     ensures { result ≡ number_of word }
 {
     if word == 0 {
-        return Number::Other;
+        return None;
     }
-    if all_digits(8, word) {
-        return Number::Of(value_in(8, word));
-    }
-    Number::Other
+    value_in(8, word)
 }

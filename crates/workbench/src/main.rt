@@ -5,142 +5,91 @@
 // line needs no line feed. It ends where the input does, or where the end is asked for.
 #![tactic(auto)]
 
-ghost use Rattle.std.specs.Prelude.{◌<◌, ◌≤◌, length};
+ghost use Rattle.std.specs.Prelude.{◌<◌, length};
 
 use chip::Chip;
 use std::io::{Read, Write};
+use std::ops::ControlFlow;
 use streams::{print, say_unread};
-use workbench_input::lines::{Fed, Input, feed};
+use workbench_input::lines::{Input, feed};
 use workbench_input::{Bench, shorter_of};
 
-// Whether there may be more input, and how far it has come.
-#[derive(Clone, Copy)]
-struct After {
-    more: bool,
+// How far the input has come, the bytes that the store, the line so far and the replies stand in, and where replies and what is
+// wrong are written. The buffers are arrays, since there is no heap.
+#[derive(Drop)]
+struct Session<'a, W: Write, E: Write> {
     input: Input,
+    store: &'a mut [u8],
+    line: [u8; 256],
+    out: [u8; 65536],
+    writer: &'a mut W,
+    err: &'a mut E,
 }
 
-// Replies to standard output.
-fn say<W: Write, E: Write>(writer: &mut W, err: &mut E, text: &[u8]) {
-    print(writer, err, b"workbench", text);
-}
-
-// Bytes of input from a place on, as many as there is room for replies; the replies are printed.
-fn part<W: Write, E: Write>(
-    writer: &mut W,
-    err: &mut E,
-    input: Input,
-    store: &mut [u8],
-    line: &mut [u8],
-    out: &mut [u8],
-    bytes: &[u8],
-    from: usize,
-) -> Fed
-    requires { (8192 ≤ length out.old) × (from < length bytes.now) }
-    ensures { from < result.from }
-{
-    let bench = input.bench;
-    let begun = Input {
-        bench,
-        size: input.size,
-        next: 0,
-    };
-    let f = feed(begun, store, line, out, bytes, from);
-    let n = shorter_of(f.input.next, out.len());
-    say(writer, err, &out[..n]);
-    f
-}
-
-// All bytes of a piece of input.
-fn piece<W: Write, E: Write>(
-    writer: &mut W,
-    err: &mut E,
-    begun: Input,
-    store: &mut [u8],
-    line: &mut [u8],
-    out: &mut [u8],
-    bytes: &[u8],
-) -> Input
-    requires { 8192 ≤ length out.old }
-{
-    let mut input = begun;
-    let mut from = 0;
-    while from < bytes.len() {
-        let f = part(writer, err, input, store, line, out, bytes, from);
-        let next = f.input;
-        input = next;
-        from = f.from;
+impl<'a, W: Write, E: Write> Session<'a, W, E> {
+    // Bytes of input from a place on, as many as there is room for replies; the replies are printed. The place of the next byte.
+    fn part(&mut self, bytes: &[u8], from: usize) -> usize
+        requires { from < length bytes.now }
+        ensures { from < result }
+    {
+        let begun = Input {
+            bench: self.input.bench,
+            size: self.input.size,
+            next: 0,
+        };
+        let f = feed(
+            begun,
+            self.store,
+            &mut self.line,
+            &mut self.out,
+            bytes,
+            from,
+        );
+        self.input = f.input;
+        let n = shorter_of(f.input.next, self.out.len());
+        print(self.writer, self.err, b"workbench", &self.out[..n]);
+        f.from
     }
-    input
-}
 
-// One read, and what came of it.
-fn turn<R: Read, W: Write, E: Write>(
-    reader: &mut R,
-    writer: &mut W,
-    err: &mut E,
-    input: Input,
-    store: &mut [u8],
-    line: &mut [u8],
-    out: &mut [u8],
-    buf: &mut [u8],
-) -> After
-    requires { 8192 ≤ length out.old }
-{
-    let Ok(n) = reader.read(buf) else {
-        say_unread(err, b"workbench");
-        return After { more: false, input };
-    };
-    if n == 0 {
-        return After { more: false, input };
-    }
-    let after = piece(writer, err, input, store, line, out, &buf[..n]);
-    After {
-        more: !after.bench.ended,
-        input: after,
-    }
-}
-
-// All of the input; turns run out after 2^64 reads.
-fn pieces<R: Read, W: Write, E: Write>(
-    reader: &mut R,
-    writer: &mut W,
-    err: &mut E,
-    begun: Input,
-    store: &mut [u8],
-    line: &mut [u8],
-    out: &mut [u8],
-    buf: &mut [u8],
-) -> Input
-    requires { 8192 ≤ length out.old }
-{
-    let mut input = begun;
-    for _ in 0..u64::MAX {
-        let t = turn(reader, writer, err, input, store, line, out, buf);
-        let next = t.input;
-        input = next;
-        if !t.more {
-            return input;
+    // All bytes of a piece of input. It goes on by what a part took, which depends on the replies: no count by hand.
+    fn piece(&mut self, bytes: &[u8]) {
+        let mut from = 0;
+        while from < bytes.len() {
+            from = self.part(bytes, from);
         }
     }
-    input
-}
 
-// A last line that has no line feed is answered as if it had one.
-fn end<W: Write, E: Write>(
-    writer: &mut W,
-    err: &mut E,
-    input: Input,
-    store: &mut [u8],
-    line: &mut [u8],
-    out: &mut [u8],
-)
-    requires { 8192 ≤ length out.old }
-{
-    if input.size == 0 {
-        return;
+    // One read; a break where there is no more of the input.
+    fn turn<R: Read>(&mut self, reader: &mut R, buf: &mut [u8]) -> ControlFlow<()> {
+        let Ok(n) = reader.read(buf) else {
+            say_unread(self.err, b"workbench");
+            return ControlFlow::Break(());
+        };
+        if n == 0 {
+            return ControlFlow::Break(());
+        }
+        self.piece(&buf[..n]);
+        if self.input.bench.ended {
+            return ControlFlow::Break(());
+        }
+        ControlFlow::Continue(())
     }
-    piece(writer, err, input, store, line, out, b"\n");
+
+    // All of the input; turns run out after 2^64 reads.
+    fn pieces<R: Read>(&mut self, reader: &mut R, buf: &mut [u8]) {
+        for _ in 0..u64::MAX {
+            if self.turn(reader, buf).is_break() {
+                return;
+            }
+        }
+    }
+
+    // A last line that has no line feed is answered as if it had one.
+    fn end(&mut self) {
+        if self.input.size != 0 {
+            self.piece(b"\n");
+        }
+    }
 }
 
 // All of the input, and its last line, with all of the store lent.
@@ -149,26 +98,28 @@ fn work<R: Read, W: Write, E: Write>(
     writer: &mut W,
     err: &mut E,
     store: &mut [u8],
-    line: &mut [u8],
-    out: &mut [u8],
-    buf: &mut [u8],
 ) {
-    if out.len() < 8192 {
-        return;
-    }
-    let chip = Chip::new(0xFF, 0xFF);
+    let mut buf = [0u8; 65536];
     let bench = Bench {
-        chip,
+        chip: Chip::new(0xFF, 0xFF),
         lent: store.len(),
         ended: false,
     };
-    let begun = Input {
+    let input = Input {
         bench,
         size: 0,
         next: 0,
     };
-    let last = pieces(reader, writer, err, begun, store, line, out, buf);
-    end(writer, err, last, store, line, out);
+    let mut session = Session {
+        input,
+        store,
+        line: [0; 256],
+        out: [0; 65536],
+        writer,
+        err,
+    };
+    session.pieces(reader, &mut buf);
+    session.end();
 }
 
 fn lend<R: Read, W: Write, E: Write>(
@@ -176,25 +127,16 @@ fn lend<R: Read, W: Write, E: Write>(
     writer: &mut W,
     err: &mut E,
     store: &mut [u8; 2097152],
-    line: &mut [u8],
-    out: &mut [u8],
-    buf: &mut [u8],
 ) {
-    work(reader, writer, err, store, line, out, buf);
+    work(reader, writer, err, store);
 }
 
 fn main(rt: HostRuntime) {
     let mut store = [0u8; 2097152];
-    let mut line = [0u8; 256];
-    let mut out = [0u8; 65536];
-    let mut buf = [0u8; 65536];
     lend(
         &mut rt.stdin(),
         &mut rt.stdout(),
         &mut rt.stderr(),
         &mut store,
-        &mut line,
-        &mut out,
-        &mut buf,
     );
 }

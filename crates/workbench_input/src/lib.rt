@@ -8,8 +8,8 @@ ghost use Rattle.chip.specs.State.{named};
 ghost use Rattle.chip.specs.Access.{port_written, port_read};
 ghost use Rattle.chip.specs.Palette.{shown};
 ghost use Rattle.chip.specs.View.{view};
-ghost use Rattle.memory.specs.Memory.{read_number, read_value, byte_number, byte_value, byte_written};
-ghost use Rattle.blit_frame.specs.Frame.{judged_number};
+ghost use Rattle.memory.specs.Memory.{answer_number, read_number, read_value, byte_number, byte_value, write_answer, byte_written};
+ghost use Rattle.blit_frame.specs.Frame.{judged, judged_number};
 ghost use Rattle.blit.specs.Transfer.{transferred};
 ghost use Rattle.workbench_input.specs.Acts.{memory, with_memory, shorter, cleared, lent_from, acted, store_after};
 ghost use Rattle.workbench_input.specs.Acts.{with_end, replied, after_reset, after_out, after_in, after_pixel, after_lend, after_read};
@@ -17,7 +17,7 @@ ghost use Rattle.workbench_input.specs.View.{view_bench, view_acted, with_kept};
 
 use blit_frame::Transfer;
 use chip::Chip;
-use memory::Read;
+use memory::{Refusal, answer_number};
 use workbench_replies::Reply;
 use workbench_requests::Request;
 
@@ -42,41 +42,31 @@ pub struct Acted {
 pub fn shorter_of(lent: usize, size: usize) -> usize
     ensures { (result ≡ shorter lent size) × (result ≤ size) }
 {
-    if lent < size { lent } else { size }
+    lent.min(size)
 }
 
 // The first n bytes of a store become 0.
+#[tactic(auto, unfolding(crate::specs::Acts::cleared))]
 fn clear(store: &mut [u8], n: usize)
     requires { n ≤ length store.old }
     ensures { store.new ≡ cleared store.old n }
 {
-    let mut i = 0;
-    while i < n {
-        store[i] = 0;
-        i += 1;
-    }
+    store[..n].fill(0);
 }
 
 // The bench with another chip.
 fn with_chip(b: Bench, chip: Chip) -> Bench
     ensures { result ≡ with_kept b chip }
 {
-    Bench {
-        chip,
-        lent: b.lent,
-        ended: b.ended,
-    }
+    Bench { chip, ..b }
 }
 
 // A reset with two pin bytes.
 fn restart(b: Bench, first: u8, second: u8) -> Acted
     ensures { view_acted result ≡ after_reset (view_bench b) first second }
 {
-    let before = b.chip;
-    let chip = before.reset(first, second);
-    let bench = with_chip(b, chip);
     Acted {
-        bench,
+        bench: with_chip(b, b.chip.reset(first, second)),
         reply: Reply::Number(0),
     }
 }
@@ -85,15 +75,10 @@ fn restart(b: Bench, first: u8, second: u8) -> Acted
 fn output(b: Bench, port: u16, v: u8) -> Acted
     ensures { view_acted result ≡ after_out (view_bench b) (port_written (view b.chip) port v) }
 {
-    let before = b.chip;
-    let w = before.write(port, v);
-    let chip = w.chip;
-    let answer = w.answer;
-    let n = chip::access::number(answer);
-    let bench = with_chip(b, chip);
+    let w = b.chip.write(port, v);
     Acted {
-        bench,
-        reply: Reply::Told(n, w.before, w.after),
+        bench: with_chip(b, w.chip),
+        reply: Reply::Told(chip::access::number(w.answer), w.before, w.after),
     }
 }
 
@@ -101,15 +86,10 @@ fn output(b: Bench, port: u16, v: u8) -> Acted
 fn input(b: Bench, port: u16) -> Acted
     ensures { view_acted result ≡ after_in (view_bench b) (port_read (view b.chip) port) }
 {
-    let before = b.chip;
-    let s = before.read(port);
-    let chip = s.chip;
-    let answer = s.answer;
-    let n = chip::access::number(answer);
-    let bench = with_chip(b, chip);
+    let s = b.chip.read(port);
     Acted {
-        bench,
-        reply: Reply::Byte(n, s.value),
+        bench: with_chip(b, s.chip),
+        reply: Reply::Byte(chip::access::number(s.answer), s.value),
     }
 }
 
@@ -117,8 +97,7 @@ fn input(b: Bench, port: u16) -> Acted
 fn colour(b: Bench, pixel: u8) -> Acted
     ensures { view_acted result ≡ after_pixel (view_bench b) (shown (named (view b.chip)) pixel) }
 {
-    let chip = b.chip;
-    let e = chip.shown(pixel);
+    let e = b.chip.shown(pixel);
     Acted {
         bench: b,
         reply: Reply::Colour(e.red, e.green, e.blue),
@@ -130,40 +109,29 @@ fn lend(b: Bench, store: &mut [u8], n: usize) -> Acted
     ensures result_value { view_acted result ≡ after_lend (view_bench b) (length store.old) n }
     ensures store_after { store.new ≡ lent_from store.old n }
 {
-    if !memory::length_allowed(n) {
-        return Acted {
-            bench: b,
-            reply: Reply::Number(3),
-        };
-    }
-    if store.len() < n {
+    if !memory::length_allowed(n) || store.len() < n {
         return Acted {
             bench: b,
             reply: Reply::Number(3),
         };
     }
     clear(store, n);
-    let chip = b.chip;
     Acted {
-        bench: Bench {
-            chip,
-            lent: n,
-            ended: b.ended,
-        },
+        bench: Bench { lent: n, ..b },
         reply: Reply::Number(0),
     }
 }
 
 // What a read answers, as a reply.
-fn seen(b: Bench, r: Read) -> Acted
+fn seen(b: Bench, r: Result<u8, Refusal>) -> Acted
     ensures { view_acted result ≡ after_read (view_bench b) (read_number r) (read_value r) }
 {
     match r {
-        Read::Byte(v) => Acted {
+        Ok(v) => Acted {
             bench: b,
             reply: Reply::Byte(0, v),
         },
-        Read::Unread(why) => Acted {
+        Err(why) => Acted {
             bench: b,
             reply: Reply::Byte(memory::refusal_number(why), 0xFF),
         },
@@ -175,41 +143,35 @@ fn load(b: Bench, store: &[u8], at: usize) -> Acted
     ensures { view_acted result ≡ after_read (view_bench b) (byte_number (length (memory b.lent store.now)) at) (byte_value (memory b.lent store.now) at) }
 {
     let n = shorter_of(b.lent, store.len());
-    let r = memory::read_byte(&store[..n], at);
-    seen(b, r)
+    seen(b, memory::read_byte(&store[..n], at))
 }
 
-// A linear write: its number.
-fn save(lent: usize, store: &mut [u8], at: usize, v: u8) -> u8
-    ensures value { result ≡ byte_number (length (memory lent store.old)) at }
+// A linear write.
+fn save(lent: usize, store: &mut [u8], at: usize, v: u8) -> Result<(), Refusal>
+    ensures value { result ≡ write_answer (memory lent store.old) at }
+    ensures result_number { answer_number result ≡ byte_number (length (memory lent store.old)) at }
     ensures store_after { store.new ≡ with_memory lent store.old (byte_written (memory lent store.old) at v) }
 {
     let n = shorter_of(lent, store.len());
-    let a = memory::write_byte(&mut store[..n], at, v);
-    memory::answer_number(a)
+    memory::write_byte(&mut store[..n], at, v)
 }
 
-// A block transfer: its number.
-fn carry(lent: usize, store: &mut [u8], t: Transfer) -> u8
-    ensures value { result ≡ judged_number (length (memory lent store.old)) t }
+// A block transfer.
+fn carry(lent: usize, store: &mut [u8], t: Transfer) -> Result<(), Refusal>
+    ensures value { result ≡ judged (length (memory lent store.old)) t }
+    ensures result_number { answer_number result ≡ judged_number (length (memory lent store.old)) t }
     ensures store_after { store.new ≡ with_memory lent store.old (transferred (memory lent store.old) t) }
 {
     let n = shorter_of(lent, store.len());
-    let a = blit::block_transfer(&mut store[..n], t);
-    memory::answer_number(a)
+    blit::block_transfer(&mut store[..n], t)
 }
 
 // The end: no line behind it is answered.
 fn close(b: Bench) -> Acted
     ensures { view_acted result ≡ replied (with_end (view_bench b)) Reply.Nothing }
 {
-    let chip = b.chip;
     Acted {
-        bench: Bench {
-            chip,
-            lent: b.lent,
-            ended: true,
-        },
+        bench: Bench { ended: true, ..b },
         reply: Reply::Nothing,
     }
 }
@@ -226,20 +188,14 @@ pub fn act(b: Bench, store: &mut [u8], r: Request) -> Acted
         Request::Pixel(p) => colour(b, p),
         Request::Lend(n) => lend(b, store, n),
         Request::Read(at) => load(b, store, at),
-        Request::Write(at, v) => {
-            let n = save(b.lent, store, at, v);
-            Acted {
-                bench: b,
-                reply: Reply::Number(n),
-            }
-        }
-        Request::Block(t) => {
-            let n = carry(b.lent, store, t);
-            Acted {
-                bench: b,
-                reply: Reply::Number(n),
-            }
-        }
+        Request::Write(at, v) => Acted {
+            bench: b,
+            reply: Reply::Number(answer_number(save(b.lent, store, at, v))),
+        },
+        Request::Block(t) => Acted {
+            bench: b,
+            reply: Reply::Number(answer_number(carry(b.lent, store, t))),
+        },
         Request::Dump => Acted {
             bench: b,
             reply: Reply::Registers,

@@ -1,11 +1,12 @@
 // Lines of input, each answered by a text: one line at a time, or as their bytes come. The store, the line so far and the text of
 // the replies stand in bytes that the caller lends. The definitions are specs/Lines; what a request does is lib.rt.
-ghost use Rattle.std.specs.Prelude.{◌≡◌, ◌+◌, cond, leb, ltb, length, take, set};
+ghost use Rattle.std.specs.Prelude.{◌≡◌, ◌+◌, cond, ltb, length, take, set};
 ghost use Rattle.workbench_input.specs.Lines.{request_in, line_acted, store_left, answered_in, out_left, view_answered, place_at, fed_from};
 ghost use Rattle.workbench_input.specs.View.{view_bench};
 
 use crate::{Bench, act, shorter_of};
 use lists::byte_at;
+use text::has_room;
 use text_tokens::tokens_of;
 use workbench_replies::print;
 use workbench_requests::{Request, request_of};
@@ -36,17 +37,13 @@ pub struct Fed {
 fn request_in(ended: bool, line: &[u8]) -> Request
     ensures { result ≡ request_in ended line.now }
 {
-    if ended {
-        return Request::Pass;
-    }
-    if byte_at(line, 0) == 0x23 {
+    if ended || byte_at(line, 0) == b'#' {
         return Request::Pass;
     }
     if 255 < line.len() {
         return Request::Unknown;
     }
-    let w = tokens_of(line);
-    request_of(w)
+    request_of(tokens_of(line))
 }
 
 // A line answered: its reply goes behind those that stand in the output.
@@ -55,13 +52,11 @@ pub fn answer(b: Bench, store: &mut [u8], line: &[u8], out: &mut [u8], at: usize
     ensures store_after { store.new ≡ store_left (view_bench b) store.old line.now }
     ensures out_after { out.new ≡ out_left out.old at (line_acted (view_bench b) store.old line.now) }
 {
-    let r = request_in(b.ended, line);
-    let a = act(b, store, r);
-    let bench = a.bench;
-    let chip = bench.chip;
-    let reply = a.reply;
-    let next = print(chip, reply, out, at);
-    Answered { bench, next }
+    let a = act(b, store, request_in(b.ended, line));
+    Answered {
+        bench: a.bench,
+        next: print(a.bench.chip, a.reply, out, at),
+    }
 }
 
 // A byte goes behind the line so far, where there is room for it; how many bytes it then has.
@@ -89,21 +84,7 @@ fn end_line(
     ensures store_after { store.new ≡ store_left (view_bench b) store.old (take size line.now) }
     ensures out_after { out.new ≡ out_left out.old at (line_acted (view_bench b) store.old (take size line.now)) }
 {
-    let n = shorter_of(size, line.len());
-    answer(b, store, &line[..n], out, at)
-}
-
-// Whether any reply finds its room.
-fn has_room(size: usize, next: usize) -> bool
-    ensures { result ≡ leb (next + 8192) size }
-{
-    if size < next {
-        return false;
-    }
-    if size - next < 8192 {
-        return false;
-    }
-    true
+    answer(b, store, &line[..shorter_of(size, line.len())], out, at)
 }
 
 // Bytes of input from a place on, to their end or while there is room for a reply.
@@ -120,28 +101,26 @@ pub fn feed(
     let mut bench = begun.bench;
     let mut size = begun.size;
     let mut next = begun.next;
-    let mut i = from;
-    while i < bytes.len() {
-        if !has_room(out.len(), next) {
+    for i in from..bytes.len() {
+        // whether any reply finds its room
+        if !has_room(out.len(), next, 8192, 0) {
             return Fed {
                 input: Input { bench, size, next },
                 from: i,
             };
         }
         let c = bytes[i];
-        i += 1;
-        if c != 0x0A {
+        if c != b'\n' {
             size = keep(line, size, c);
             continue;
         }
         let a = end_line(bench, store, line, size, out, next);
-        let after = a.bench;
-        bench = after;
+        bench = a.bench;
         next = a.next;
         size = 0;
     }
     Fed {
         input: Input { bench, size, next },
-        from: i,
+        from: from.max(bytes.len()),
     }
 }

@@ -11,7 +11,7 @@ ghost use Rattle.text.specs.Adding.{AddedIn};
 ghost use Rattle.workbench_replies.specs.Reply.{reply_text};
 
 use chip::Chip;
-use text::{add, add_decimal, digit, has_room};
+use text::{add, add_byte, add_decimal, has_room};
 use text_registers::dump;
 
 // An answer.
@@ -46,44 +46,22 @@ fn add_reply(chip: Chip, reply: Reply, out: &mut [u8], at: usize) -> usize
             add(out, end, b"\n")
         }
         Reply::Byte(k, value) => {
-            let end = add_decimal(out, at, k as usize);
-            let v = value as u16;
-            let text = [b' ', digit(v / 16), digit(v), b'\n'];
-            add(out, end, &text)
+            let number = add_decimal(out, at, k as usize);
+            let end = add_byte(out, number, value);
+            add(out, end, b"\n")
         }
         Reply::Told(k, before, after) => {
-            let end = add_decimal(out, at, k as usize);
-            let b = before as u16;
-            let a = after as u16;
-            let text = [
-                b' ',
-                digit(b / 16),
-                digit(b),
-                b' ',
-                digit(a / 16),
-                digit(a),
-                b'\n',
-            ];
-            add(out, end, &text)
+            let number = add_decimal(out, at, k as usize);
+            let first = add_byte(out, number, before);
+            let end = add_byte(out, first, after);
+            add(out, end, b"\n")
         }
         Reply::Colour(red, green, blue) => {
-            let r = red as u16;
-            let g = green as u16;
-            let b = blue as u16;
-            let text = [
-                b'0',
-                b' ',
-                digit(r / 16),
-                digit(r),
-                b' ',
-                digit(g / 16),
-                digit(g),
-                b' ',
-                digit(b / 16),
-                digit(b),
-                b'\n',
-            ];
-            add(out, at, &text)
+            let number = add(out, at, b"0");
+            let r = add_byte(out, number, red);
+            let g = add_byte(out, r, green);
+            let end = add_byte(out, g, blue);
+            add(out, end, b"\n")
         }
         Reply::Registers => dump(chip, out, at),
         Reply::Requests => add(

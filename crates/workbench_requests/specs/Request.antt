@@ -2,24 +2,22 @@
 -- digits, and no word stands behind them. A line without words is passed over. A line of any other form is Unknown, and so is
 -- one with a number that does not fit its place: a port is at most FFFFh; a byte, a pin byte, a pixel and a raster code are at
 -- most FFh; a direction is 0 or 1. Worked lines are proofs/WorkedLines.
-use Rattle.std.specs.Prelude.{ℕ, ◌+◌, Bool, false, cond, ◌&&◌, leb, eqb}
+use Rattle.std.specs.Prelude.{ℕ, ◌+◌, Bool, false, cond, ◌&&◌, leb, eqb, Option, Some, None}
 use Rattle.text_tokens.specs.Hex.{number_of}
 use Rattle.text_tokens.specs.Tokens.{token_at, token}
 use Rattle.text_tokens.specs.declared.Tokens.{Tokens}
-use Rattle.text_tokens.specs.declared.Number.{Number}
-use Rattle.text_tokens.specs.declared.Number.TheVariants.{Of, Other}
 use Rattle.blit_frame.specs.declared.Transfer.{Transfer}
 use Rattle.workbench_requests.specs.declared.Request.{Request}
 use Rattle.workbench_requests.specs.declared.Request.TheVariants.{Reset, Out, In, Pixel, Lend, Read, Write, Block, Dump, Help, Quit, Pass, Unknown}
 
 -- ---- a word as a number that is at most so much, and its value, 0 where it is no such number
-abbrev pub up_to : ℕ → Number → Bool
-up_to most (Of n) = leb n most
-up_to most Other = false
+abbrev pub up_to : ℕ → Option ℕ → Bool
+up_to most (Some n) = leb n most
+up_to most None = false
 
-abbrev pub value_of : Number → ℕ
-value_of (Of n) = n
-value_of Other = 0
+abbrev pub value_of : Option ℕ → ℕ
+value_of (Some n) = n
+value_of None = 0
 
 unfoldable pub fits : ℕ → ℕ → Bool
 fits most word = up_to most (number_of word)

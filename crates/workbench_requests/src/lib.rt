@@ -2,11 +2,11 @@
 // definition is specs/Request. What a line's words are is the crate text_tokens'; what a request does is not here.
 #![tactic(auto)]
 
-ghost use Rattle.std.specs.Prelude.{◌≡◌, ◌≤◌, eqb};
-ghost use Rattle.workbench_requests.specs.Request.{fits as isUpTo, value as valueUpTo, is_transfer, transfer_of, request_of};
+ghost use Rattle.std.specs.Prelude.{◌≡◌, ◌&&◌, cond, eqb};
+ghost use Rattle.workbench_requests.specs.Request.{fits, value, is_port, port as port_at, is_byte, byte as byte_at, is_number, number as number_at, is_transfer, transfer_of, request_of};
 
 use blit_frame::{Area, Transfer};
-use text_tokens::{Number, Tokens, number_of};
+use text_tokens::{Tokens, number_of};
 
 // What a line asks for.
 #[derive(Clone, Copy)]
@@ -39,222 +39,165 @@ pub enum Request {
     Unknown,
 }
 
-// Whether a word is a number that is at most so much.
-fn fits(most: u32, word: u64) -> bool
-    ensures { result ≡ isUpTo most word }
+// A word as a port, a byte, a direction, and a number of any value.
+#[tactic(auto, unfolding(crate::specs::Request::fits, crate::specs::Request::value))]
+fn port(word: u64) -> Option<u16>
+    ensures { result ≡ cond (fits 0xFFFF word) (Some (value 0xFFFF word)) None }
 {
-    match number_of(word) {
-        Number::Of(n) => n <= most,
-        Number::Other => false,
+    u16::try_from(number_of(word)?).ok()
+}
+
+#[tactic(auto, unfolding(crate::specs::Request::fits, crate::specs::Request::value))]
+fn byte(word: u64) -> Option<u8>
+    ensures { result ≡ cond (fits 0xFF word) (Some (value 0xFF word)) None }
+{
+    u8::try_from(number_of(word)?).ok()
+}
+
+#[tactic(auto, unfolding(crate::specs::Request::fits, crate::specs::Request::value))]
+fn direction(word: u64) -> Option<bool>
+    ensures { result ≡ cond (fits 1 word) (Some (eqb (value 1 word) 1)) None }
+{
+    match number_of(word)? {
+        0 => Some(false),
+        1 => Some(true),
+        _ => None,
     }
 }
 
-// The value of such a word, and 0 of any other.
-fn value(most: u32, word: u64) -> u32
-    ensures value { result ≡ valueUpTo most word }
-    ensures upper_bound { result ≤ most }
+#[tactic(auto, unfolding(crate::specs::Request::fits, crate::specs::Request::value))]
+fn number(word: u64) -> Option<usize>
+    ensures { result ≡ cond (fits 0xFFFFFFFF word) (Some (value 0xFFFFFFFF word)) None }
 {
-    match number_of(word) {
-        Number::Of(n) => {
-            if n <= most {
-                return n;
-            }
-            0
-        }
-        Number::Other => 0,
-    }
+    Some(number_of(word)? as usize)
 }
 
-// The values of words that are a port, a byte, a direction, and a number of any value.
-fn port(word: u64) -> u16
-    ensures { result ≡ valueUpTo 0xFFFF word }
+// The transfer that the words behind the name say.
+#[tactic(auto, unfolding(crate::specs::Request::is_transfer, crate::specs::Request::transfer_of))]
+fn transfer_of(w: Tokens) -> Option<Transfer>
+    ensures { result ≡ cond (is_transfer w) (Some (transfer_of w)) None }
 {
-    value(0xFFFF, word) as u16
-}
-
-fn byte(word: u64) -> u8
-    ensures { result ≡ valueUpTo 0xFF word }
-{
-    value(0xFF, word) as u8
-}
-
-fn direction(word: u64) -> bool
-    ensures { result ≡ eqb (valueUpTo 1 word) 1 }
-{
-    value(1, word) == 1
-}
-
-fn number(word: u64) -> usize
-    ensures { result ≡ valueUpTo 0xFFFFFFFF word }
-{
-    value(0xFFFF_FFFF, word) as usize
-}
-
-// Whether a word is one of these.
-fn is_port(word: u64) -> bool
-    ensures { result ≡ isUpTo 0xFFFF word }
-{
-    fits(0xFFFF, word)
-}
-
-fn is_byte(word: u64) -> bool
-    ensures { result ≡ isUpTo 0xFF word }
-{
-    fits(0xFF, word)
-}
-
-fn is_direction(word: u64) -> bool
-    ensures { result ≡ isUpTo 1 word }
-{
-    fits(1, word)
-}
-
-fn is_number(word: u64) -> bool
-    ensures { result ≡ isUpTo 0xFFFFFFFF word }
-{
-    fits(0xFFFF_FFFF, word)
-}
-
-// Whether the words behind the name are a transfer's numbers.
-fn is_transfer(w: Tokens) -> bool
-    ensures { result ≡ is_transfer w }
-{
-    let at = w.at;
-    is_number(at[1])
-        & is_number(at[2])
-        & is_number(at[3])
-        & is_number(at[4])
-        & is_number(at[5])
-        & is_number(at[6])
-        & is_byte(at[7])
-        & is_direction(at[8])
-        & is_direction(at[9])
-        & is_number(at[10])
-        & is_number(at[11])
-}
-
-// The transfer that they say.
-fn transfer_of(w: Tokens) -> Transfer
-    ensures { result ≡ transfer_of w }
-{
-    let at = w.at;
     let destination = Area {
-        address: number(at[1]),
-        span: number(at[2]),
+        address: number(w.at[1])?,
+        span: number(w.at[2])?,
     };
     let source = Area {
-        address: number(at[3]),
-        span: number(at[4]),
+        address: number(w.at[3])?,
+        span: number(w.at[4])?,
     };
-    Transfer {
+    let width = number(w.at[5])?;
+    let height = number(w.at[6])?;
+    let code = byte(w.at[7])?;
+    let leftward = direction(w.at[8])?;
+    let upward = direction(w.at[9])?;
+    let pattern_address = number(w.at[10])?;
+    let pattern_row = number(w.at[11])?;
+    Some(Transfer {
         destination,
         source,
-        width: number(at[5]),
-        height: number(at[6]),
-        code: byte(at[7]),
-        leftward: direction(at[8]),
-        upward: direction(at[9]),
-        pattern_address: number(at[10]),
-        pattern_row: number(at[11]),
-    }
+        width,
+        height,
+        code,
+        leftward,
+        upward,
+        pattern_address,
+        pattern_row,
+    })
 }
 
-// What a line's words ask for.
+// The requests with numbers, each with its own behind the name: a function each, since `?` leaves a request's own form.
+fn reset(w: Tokens) -> Option<Request>
+    ensures { result ≡ cond (is_byte w 1 && is_byte w 2) (Some (Request.Reset (byte_at w 1) (byte_at w 2))) None }
+{
+    let first = byte(w.at[1])?;
+    let second = byte(w.at[2])?;
+    Some(Request::Reset(first, second))
+}
+
+fn output(w: Tokens) -> Option<Request>
+    ensures { result ≡ cond (is_port w 1 && is_byte w 2) (Some (Request.Out (port_at w 1) (byte_at w 2))) None }
+{
+    let to = port(w.at[1])?;
+    let sent = byte(w.at[2])?;
+    Some(Request::Out(to, sent))
+}
+
+fn input(w: Tokens) -> Option<Request>
+    ensures { result ≡ cond (is_port w 1) (Some (Request.In (port_at w 1))) None }
+{
+    let from = port(w.at[1])?;
+    Some(Request::In(from))
+}
+
+fn pixel(w: Tokens) -> Option<Request>
+    ensures { result ≡ cond (is_byte w 1) (Some (Request.Pixel (byte_at w 1))) None }
+{
+    let value = byte(w.at[1])?;
+    Some(Request::Pixel(value))
+}
+
+fn lend(w: Tokens) -> Option<Request>
+    ensures { result ≡ cond (is_number w 1) (Some (Request.Lend (number_at w 1))) None }
+{
+    let size = number(w.at[1])?;
+    Some(Request::Lend(size))
+}
+
+fn read(w: Tokens) -> Option<Request>
+    ensures { result ≡ cond (is_number w 1) (Some (Request.Read (number_at w 1))) None }
+{
+    let at = number(w.at[1])?;
+    Some(Request::Read(at))
+}
+
+fn write(w: Tokens) -> Option<Request>
+    ensures { result ≡ cond (is_number w 1 && is_byte w 2) (Some (Request.Write (number_at w 1) (byte_at w 2))) None }
+{
+    let at = number(w.at[1])?;
+    let value = byte(w.at[2])?;
+    Some(Request::Write(at, value))
+}
+
+fn block(w: Tokens) -> Option<Request>
+    ensures { result ≡ cond (is_transfer w) (Some (Request.Block (transfer_of w))) None }
+{
+    let t = transfer_of(w)?;
+    Some(Request::Block(t))
+}
+
+// What a line's words ask for: a request, and no word behind it.
 pub fn request_of(w: Tokens) -> Request
     ensures { result ≡ request_of w }
 {
     let at = w.at;
-    let name = at[0];
-    let first = at[1];
-    let second = at[2];
-    let third = at[3];
-    match name {
+    let asked = match at[0] {
         // `RESET`
-        0x52_4553_4554 => {
-            if (third == 0) & is_byte(first) & is_byte(second) {
-                return Request::Reset(byte(first), byte(second));
-            }
-            Request::Unknown
-        }
+        0x52_4553_4554 if at[3] == 0 => reset(w),
         // `O`
-        0x4F => {
-            if (third == 0) & is_port(first) & is_byte(second) {
-                return Request::Out(port(first), byte(second));
-            }
-            Request::Unknown
-        }
+        0x4F if at[3] == 0 => output(w),
         // `I`
-        0x49 => {
-            if (second == 0) & is_port(first) {
-                return Request::In(port(first));
-            }
-            Request::Unknown
-        }
+        0x49 if at[2] == 0 => input(w),
         // `P`
-        0x50 => {
-            if (second == 0) & is_byte(first) {
-                return Request::Pixel(byte(first));
-            }
-            Request::Unknown
-        }
+        0x50 if at[2] == 0 => pixel(w),
         // `M`
-        0x4D => {
-            if (second == 0) & is_number(first) {
-                return Request::Lend(number(first));
-            }
-            Request::Unknown
-        }
+        0x4D if at[2] == 0 => lend(w),
         // `R`
-        0x52 => {
-            if (second == 0) & is_number(first) {
-                return Request::Read(number(first));
-            }
-            Request::Unknown
-        }
+        0x52 if at[2] == 0 => read(w),
         // `W`
-        0x57 => {
-            if (third == 0) & is_number(first) & is_byte(second) {
-                return Request::Write(number(first), byte(second));
-            }
-            Request::Unknown
-        }
+        0x57 if at[3] == 0 => write(w),
         // `T`
-        0x54 => {
-            if (at[12] == 0) & is_transfer(w) {
-                return Request::Block(transfer_of(w));
-            }
-            Request::Unknown
-        }
+        0x54 if at[12] == 0 => block(w),
         // `D`
-        0x44 => {
-            if first == 0 {
-                return Request::Dump;
-            }
-            Request::Unknown
-        }
+        0x44 if at[1] == 0 => Some(Request::Dump),
         // `?`
-        0x3F => {
-            if first == 0 {
-                return Request::Help;
-            }
-            Request::Unknown
-        }
+        0x3F if at[1] == 0 => Some(Request::Help),
         // `HELP`
-        0x4845_4C50 => {
-            if first == 0 {
-                return Request::Help;
-            }
-            Request::Unknown
-        }
+        0x4845_4C50 if at[1] == 0 => Some(Request::Help),
         // `Q`
-        0x51 => {
-            if first == 0 {
-                return Request::Quit;
-            }
-            Request::Unknown
-        }
+        0x51 if at[1] == 0 => Some(Request::Quit),
         // no word
-        0x00 => Request::Pass,
-        _ => Request::Unknown,
-    }
+        0x00 => Some(Request::Pass),
+        _ => None,
+    };
+    asked.unwrap_or(Request::Unknown)
 }

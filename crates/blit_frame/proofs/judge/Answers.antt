@@ -3,5 +3,5 @@ use Rattle.std.proofs.Common.{sym, ◌∙◌}
 use Rattle.blit_frame.proofs.Areas.{ranges}
 use Rattle.blit_frame.proofs.judge.Goals as goal
 
-pub inside-requires-clause-ranges : goal.inside-requires-clause-ranges
-inside-requires-clause-ranges c = ranges _ (sym c.in_range.ensures ∙ c.if-not-in_range.false)
+pub invariant_of-inside-clause-ranges : goal.invariant_of-inside-clause-ranges
+invariant_of-inside-clause-ranges c = ranges _ (sym c.in_range.ensures ∙ c.if-not-in_range.false)

@@ -1,5 +1,4 @@
 -- `raster::spread` meets its contract: the bit is 0 or 1, and both are computed. Assumes nothing.
-use borrow.Author.Rules.{rules}
 use Rattle.lists.specs.Bits.{bit}
 use Rattle.blit_raster.proofs.Laws.{bit_small}
 use Rattle.blit_raster.proofs.Terms.{copied}

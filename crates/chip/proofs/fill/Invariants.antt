@@ -1,10 +1,17 @@
-use Rattle.std.proofs.Common.{◌≡◌, ℕ, ◌-◌, ◌<◌, ◌≤◌, length, refl, ◌∙◌, ⊎_elim, arith, length-set, rules}
+-- The names of the groups before, and those of this group before an index, have their bytes.
+use Rattle.std.proofs.Common.{◌≡◌, ℕ, ◌+◌, ◌*◌, ◌<◌, length}
 use Rattle.chip_registers.specs.Row.{row_size}
-use Rattle.chip.proofs.Places.{Stored, stored, skipped, filled}
+use Rattle.chip.proofs.Places.{Stored}
 use Rattle.chip.proofs.fill.Given as goal
 
-abbrev pub invariant-loop-n : goal.invariant-loop-n
-invariant-loop-n l = (l.n ≤ 2304) × (length l.row ≡ row_size) × ((m : ℕ) → m < l.n → Stored l.first l.second l.row m)
+abbrev pub invariant-loop-k : goal.invariant-loop-k
+invariant-loop-k l = record {
+  size : length l.row ≡ row_size;
+  done : (m : ℕ) → m < 256 * l.k → Stored l.first l.second l.row m;
+}
 
-abbrev pub decreases-loop-n : goal.decreases-loop-n
-decreases-loop-n l = 2304 - l.n
+abbrev pub invariant-loop-i : goal.invariant-loop-i
+invariant-loop-i l = record {
+  size : length l.row ≡ row_size;
+  done : (m : ℕ) → m < 256 * l.k + l.i → Stored l.first l.second l.row m;
+}

@@ -1,5 +1,4 @@
 -- By the group; the running counts are computed from the tables.
-use Rattle.std.proofs.Common.{arith}
 use Rattle.chip_registers.specs.Groups.{table_at}
 use Rattle.chip_registers.specs.Row.{before, lines_of}
 use Rattle.chip_registers.specs.CrtController.{cr_lines}
@@ -10,31 +9,30 @@ use Rattle.chip_registers.specs.FlatPanel.{fr_lines}
 use Rattle.chip_registers.specs.Multimedia.{mr_lines}
 use Rattle.chip.proofs.first_of.Goals as goal
 
--- CR, SR, GR, XR, FR, MR, MSR, PALMASK, AR
-pub returns-in-Cr : goal.returns-in-Cr
+pub returns-in-Cr-clause-start : goal.returns-in-Cr-clause-start
 unfolding before lines_of table_at cr_lines sr_lines gr_lines xr_lines fr_lines mr_lines
-returns-in-Cr c = (rw c.in-Cr.is, omega arith)
+returns-in-Cr-clause-start c = rw c.in-Cr.is
 
-pub returns-in-Sr : goal.returns-in-Sr
+pub returns-in-Sr-clause-start : goal.returns-in-Sr-clause-start
 unfolding before lines_of table_at cr_lines sr_lines gr_lines xr_lines fr_lines mr_lines
-returns-in-Sr c = (rw c.in-Sr.is, omega arith)
+returns-in-Sr-clause-start c = rw c.in-Sr.is
 
-pub returns-in-Gr : goal.returns-in-Gr
+pub returns-in-Gr-clause-start : goal.returns-in-Gr-clause-start
 unfolding before lines_of table_at cr_lines sr_lines gr_lines xr_lines fr_lines mr_lines
-returns-in-Gr c = (rw c.in-Gr.is, omega arith)
+returns-in-Gr-clause-start c = rw c.in-Gr.is
 
-pub returns-in-Xr : goal.returns-in-Xr
+pub returns-in-Xr-clause-start : goal.returns-in-Xr-clause-start
 unfolding before lines_of table_at cr_lines sr_lines gr_lines xr_lines fr_lines mr_lines
-returns-in-Xr c = (rw c.in-Xr.is, omega arith)
+returns-in-Xr-clause-start c = rw c.in-Xr.is
 
-pub returns-in-Fr : goal.returns-in-Fr
+pub returns-in-Fr-clause-start : goal.returns-in-Fr-clause-start
 unfolding before lines_of table_at cr_lines sr_lines gr_lines xr_lines fr_lines mr_lines
-returns-in-Fr c = (rw c.in-Fr.is, omega arith)
+returns-in-Fr-clause-start c = rw c.in-Fr.is
 
-pub returns-in-Mr : goal.returns-in-Mr
+pub returns-in-Mr-clause-start : goal.returns-in-Mr-clause-start
 unfolding before lines_of table_at cr_lines sr_lines gr_lines xr_lines fr_lines mr_lines
-returns-in-Mr c = (rw c.in-Mr.is, omega arith)
+returns-in-Mr-clause-start c = rw c.in-Mr.is
 
-pub returns-in-Ar : goal.returns-in-Ar
+pub returns-in-Ar-clause-start : goal.returns-in-Ar-clause-start
 unfolding before lines_of table_at cr_lines sr_lines gr_lines xr_lines fr_lines mr_lines
-returns-in-Ar c = (rw c.in-Ar.is, omega arith)
+returns-in-Ar-clause-start c = rw c.in-Ar.is

@@ -1,10 +1,20 @@
 -- The byte of the table of places, counted from the group's first.
-use Rattle.std.proofs.Common.{arith}
-use Rattle.chip.proofs.Places.{stands_nowhere, stands-there}
+use Rattle.std.proofs.Common.{arith, ◌∙◌}
+use Rattle.chip.proofs.Places.{beside-row, stands_nowhere, stands-there, place-within}
 use Rattle.chip.proofs.place_of.Goals as goal
 
-pub returns-then-e-lt128 : goal.returns-then-e-lt128
-returns-then-e-lt128 c = stands_nowhere _ _ (omega arith) (omega arith)
+pub returns-in_err-first-clause-place : goal.returns-in_err-first-clause-place
+returns-in_err-first-clause-place c = c.from_residual.ensures ∙ beside-row c.args.g c.args.i (omega arith) c.in_err-first.ensures.start
 
-pub returns : goal.returns
-returns c = rw (c.first_of.ensures.0, c.standing-e.ensures) (stands-there _ _ (omega arith) (omega arith))
+pub returns-then-e-lt128-clause-place : goal.returns-then-e-lt128-clause-place
+returns-then-e-lt128-clause-place c = stands_nowhere _ _ (omega arith) (omega arith)
+
+pub returns-else-e-lt128-clause-place : goal.returns-else-e-lt128-clause-place
+returns-else-e-lt128-clause-place c =
+    rw c.standing-e.ensures (stands-there c.args.g c.args.i (omega arith) c.in_ok-first.ensures.start (omega arith))
+
+pub returns-else-e-lt128-clause-within : goal.returns-else-e-lt128-clause-within
+returns-else-e-lt128-clause-within c =
+    let place = stands-there c.args.g c.args.i (omega arith) c.in_ok-first.ensures.start (omega arith) in
+    let within = place-within c.args.g c.args.i (omega arith) in
+    rw c.standing-e.ensures (rw (← place) at within)

@@ -1,4 +1,5 @@
 -- The match is the table: each line is computed from the definitions, and none that follows has a register.
+use Prim.Native.Nat.{◌/◌}
 use native.Mathlib.Omega.{arith}
 use mathlib.Core.Path.{refl, sym}
 use lib.Dec.{eqb}
@@ -19,26 +20,26 @@ use Rattle.chip_masks.specs.Table.{packed, line_of, standing_of}
 use Rattle.chip_masks.proofs.LineLaws.{passed}
 use Rattle.chip_masks.proofs.gr.Goals as goal
 
-pub returns-in-0-clause-result_value : goal.returns-in-0-clause-result_value
-unfolding every line_of packed row_of standing_of slot_of before lines_of table_at cr_lines sr_lines gr_lines xr_lines fr_lines mr_lines ar_lines
-returns-in-0-clause-result_value c = rw c.in-0.is
+pub returns-in-0-clause-writable_bits : goal.returns-in-0-clause-writable_bits
+unfolding every line_of packed row_of gr_lines
+returns-in-0-clause-writable_bits c = rw c.in-0.is
 
-pub returns-in-0-clause-result_value_2 : goal.returns-in-0-clause-result_value_2
-unfolding every line_of packed row_of standing_of slot_of before lines_of table_at cr_lines sr_lines gr_lines xr_lines fr_lines mr_lines ar_lines
-returns-in-0-clause-result_value_2 c = rw c.in-0.is
+pub returns-in-0-clause-standing_bytes : goal.returns-in-0-clause-standing_bytes
+unfolding every line_of packed standing_of slot_of before lines_of table_at cr_lines sr_lines gr_lines xr_lines fr_lines mr_lines ar_lines
+returns-in-0-clause-standing_bytes c = rw c.in-0.is
 
-pub returns-in-1-clause-result_value : goal.returns-in-1-clause-result_value
-unfolding every line_of packed row_of standing_of slot_of before lines_of table_at cr_lines sr_lines gr_lines xr_lines fr_lines mr_lines ar_lines
-returns-in-1-clause-result_value c = rw c.in-1.is
+pub returns-in-1-clause-writable_bits : goal.returns-in-1-clause-writable_bits
+unfolding every line_of packed row_of gr_lines
+returns-in-1-clause-writable_bits c = rw c.in-1.is
 
-pub returns-in-1-clause-result_value_2 : goal.returns-in-1-clause-result_value_2
-unfolding every line_of packed row_of standing_of slot_of before lines_of table_at cr_lines sr_lines gr_lines xr_lines fr_lines mr_lines ar_lines
-returns-in-1-clause-result_value_2 c = rw c.in-1.is
+pub returns-in-1-clause-standing_bytes : goal.returns-in-1-clause-standing_bytes
+unfolding every line_of packed standing_of slot_of before lines_of table_at cr_lines sr_lines gr_lines xr_lines fr_lines mr_lines ar_lines
+returns-in-1-clause-standing_bytes c = rw c.in-1.is
 
-pub returns-in_default-clause-result_value : goal.returns-in_default-clause-result_value
-unfolding every line_of packed row_of standing_of slot_of before lines_of table_at cr_lines sr_lines gr_lines xr_lines fr_lines mr_lines ar_lines
-returns-in_default-clause-result_value c = let past = passed _ 2 c.in_default.in_default-own.rest in sym (eqb-true _ 0 (every-at (λ k. eqb (line_of (λ g i. writable_of g i) Gr k) 0) 2 30 refl c.args.k past (omega arith)))
+pub returns-in_default-clause-writable_bits : goal.returns-in_default-clause-writable_bits
+unfolding every line_of packed row_of gr_lines
+returns-in_default-clause-writable_bits c = let past = passed _ 2 c.in_default.in_default-own.rest in sym (eqb-true _ 0 (every-at (λ k. eqb (line_of (λ g i. writable_of g i) Gr k) 0) 2 30 refl (c.args.i / 8) past (omega arith)))
 
-pub returns-in_default-clause-result_value_2 : goal.returns-in_default-clause-result_value_2
-unfolding every line_of packed row_of standing_of slot_of before lines_of table_at cr_lines sr_lines gr_lines xr_lines fr_lines mr_lines ar_lines
-returns-in_default-clause-result_value_2 c = let past = passed _ 2 c.in_default.in_default-own.rest in sym (eqb-true _ 0 (every-at (λ k. eqb (line_of standing_of Gr k) 0) 2 30 refl c.args.k past (omega arith)))
+pub returns-in_default-clause-standing_bytes : goal.returns-in_default-clause-standing_bytes
+unfolding every line_of packed standing_of slot_of before lines_of table_at cr_lines sr_lines gr_lines xr_lines fr_lines mr_lines ar_lines
+returns-in_default-clause-standing_bytes c = let past = passed _ 2 c.in_default.in_default-own.rest in sym (eqb-true _ 0 (every-at (λ k. eqb (line_of standing_of Gr k) 0) 2 30 refl (c.args.i / 8) past (omega arith)))

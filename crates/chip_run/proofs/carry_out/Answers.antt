@@ -1,37 +1,30 @@
 -- By the kind of command.
-use Rattle.chip_run.specs.Run.{done}
-use mathlib.Core.Path.{refl, sym}
+use Rattle.std.proofs.Common.{refl, sym, ap, ◌∙◌}
 use Rattle.chip.proofs.DifferLaws.{unmoved, read_differs_not}
+use Rattle.chip_run.specs.Run.{done, after_write}
 use Rattle.chip_run.proofs.carry_out.Goals as goal
 
-pub returns-in-Out-clause-result_value : goal.returns-in-Out-clause-result_value
+pub returns-in-Out : goal.returns-in-Out
 unfolding done
-returns-in-Out-clause-result_value c = rw c.in-Out.is (rw (c.judge.ensures, ← c.write-w.ensures.result_value))
+returns-in-Out c = rw c.in-Out.is record {
+  shown = c.after_write.ensures.shown ∙ ap (after_write c.args.acc) c.write.ensures.result_value;
+  counted = c.after_write.ensures.counted ∙ c.write.ensures.changed_value;
+}
 
-pub returns-in-Out-clause-changed_value : goal.returns-in-Out-clause-changed_value
+pub returns-in-In : goal.returns-in-In
 unfolding done
-returns-in-Out-clause-changed_value c = rw c.in-Out.is c.write-w.ensures.changed_value
+returns-in-In c = rw c.in-In.is record {
+  shown = rw (c.judge.ensures, ← c.read-s.ensures.result_value);
+  counted = sym (read_differs_not _ _);
+}
 
-pub returns-in-In-clause-result_value : goal.returns-in-In-clause-result_value
+pub returns-in-Merge : goal.returns-in-Merge
 unfolding done
-returns-in-In-clause-result_value c = rw c.in-In.is (rw (c.judge-in-In.ensures, ← c.read-s.ensures.result_value))
+returns-in-Merge c = rw c.in-Merge.is record { shown = refl; counted = sym (unmoved _ _ refl) }
 
-pub returns-in-In-clause-changed_value : goal.returns-in-In-clause-changed_value
+pub returns-in-OutAcc : goal.returns-in-OutAcc
 unfolding done
-returns-in-In-clause-changed_value c = rw c.in-In.is (sym (read_differs_not _ _))
-
-pub returns-in-Merge-clause-result_value : goal.returns-in-Merge-clause-result_value
-unfolding done
-returns-in-Merge-clause-result_value c = rw c.in-Merge.is
-
-pub returns-in-Merge-clause-changed_value : goal.returns-in-Merge-clause-changed_value
-unfolding done
-returns-in-Merge-clause-changed_value c = rw c.in-Merge.is (sym (unmoved _ _ refl))
-
-pub returns-in-OutAcc-clause-result_value : goal.returns-in-OutAcc-clause-result_value
-unfolding done
-returns-in-OutAcc-clause-result_value c = rw c.in-OutAcc.is (rw (c.judge-in-OutAcc.ensures, ← c.write-w-in-OutAcc.ensures.result_value))
-
-pub returns-in-OutAcc-clause-changed_value : goal.returns-in-OutAcc-clause-changed_value
-unfolding done
-returns-in-OutAcc-clause-changed_value c = rw c.in-OutAcc.is c.write-w-in-OutAcc.ensures.changed_value
+returns-in-OutAcc c = rw c.in-OutAcc.is record {
+  shown = c.after_write-in-OutAcc.ensures.shown ∙ ap (after_write c.args.acc) c.write-in-OutAcc.ensures.result_value;
+  counted = c.after_write-in-OutAcc.ensures.counted ∙ c.write-in-OutAcc.ensures.changed_value;
+}

@@ -1,112 +1,72 @@
--- The loop's invariant: what is still to come from here is the whole run. Each way out is a turn of that law.
-use Prim.Native.Nat.{◌+◌, ◌-◌, ◌%◌, ◌≤◌, ◌<◌}
-use mathlib.Core.Path.{◌≡◌, refl, ◌∙◌}
-use lib.ListN.{length}
+-- Each way out is a turn of the law of what is still to come.
+use Rattle.std.proofs.Common.{◌≡◌, ◌+◌, ◌*◌, ◌%◌, ◌<◌, length, ap, ◌∙◌, arith}
 use Rattle.chip.specs.View.{view}
+use Rattle.chip_run.specs.Run.{one}
 use Rattle.chip_run.specs.View.{view_did}
-use Rattle.chip_run.specs.Run.{ran}
 use Rattle.chip_run.proofs.RunNumbers.{run_answered}
-use Rattle.chip_run.proofs.Turns.{rest, step_most, finished, limited, advanced, halted, whole, uneven}
-use borrow.Author.Rules.{rules}
-use native.Mathlib.Omega.{arith}
+use Rattle.chip_run.proofs.Turns.{read-four, added_most, finished, limited, advanced, halted, whole, uneven}
 use Rattle.chip_run.proofs.run.Goals as goal
 
-pub returns-then-size-ne0-clause-result_value : goal.returns-then-size-ne0-clause-result_value
-returns-then-size-ne0-clause-result_value c = (run_answered _ _ _ (uneven _ _ _ c.if-size-ne0.true)).0
+pub returns-in_default : goal.returns-in_default
+returns-in_default c =
+    let odd : length c.args.commands.now % 4 ≡ 0 → ⊥ = λ e. omega arith in
+    let (result, (count, ending)) = run_answered _ _ _ (uneven (view c.args.chip) c.args.commands.now c.args.limit odd) in
+    record { result_value = result; count_value = count; ending_value = ending }
 
-pub returns-then-size-ne0-clause-ending_value : goal.returns-then-size-ne0-clause-ending_value
-returns-then-size-ne0-clause-ending_value c = (run_answered _ _ _ (uneven _ _ _ c.if-size-ne0.true)).1.1
+pub loop-place-init : goal.loop-place-init
+loop-place-init c = record {
+  ahead = whole (view c.args.chip) c.args.commands.now c.args.limit (omega arith);
+  below = omega arith;
+  few = omega arith;
+}
 
-pub loop-at-init : goal.loop-at-init
-loop-at-init c = (whole (view c.args.chip) c.args.commands.now c.args.limit c.if-size-ne0.false, c.if-size-ne0.false, refl, omega arith, omega arith, refl, omega arith)
-
-pub returns-then-place-limit-clause-result_value : goal.returns-then-place-limit-clause-result_value
-returns-then-place-limit-clause-result_value c =
-    let l = c.loop-at in
+pub returns-then-place-limit : goal.returns-then-place-limit
+returns-then-place-limit c =
+    let l = c.loop-place in
     let a = c.args in
-    let i = l.invariant in
-    let room : l.at + 3 < length a.commands.now = omega arith in
-    (run_answered _ _ _ (limited (view l.chip) l.acc l.place l.changing a.limit a.commands.now l.at room c.if-place-limit.true ∙ i.0)).0
+    let room : 4 * l.place + 3 < length a.commands.now = omega arith in
+    let e = limited (view l.chip) l.acc l.place l.changing a.limit a.commands.now (4 * l.place) room c.if-place-limit.true ∙ l.invariant.ahead in
+    let (result, (count, ending)) = run_answered _ _ _ e in
+    record { result_value = result; count_value = count; ending_value = ending }
 
-pub returns-then-place-limit-clause-count_value : goal.returns-then-place-limit-clause-count_value
-returns-then-place-limit-clause-count_value c =
-    let l = c.loop-at in
+pub returns-in-Err : goal.returns-in-Err
+returns-in-Err c =
+    let l = c.loop-place in
     let a = c.args in
-    let i = l.invariant in
-    let room : l.at + 3 < length a.commands.now = omega arith in
-    (run_answered _ _ _ (limited (view l.chip) l.acc l.place l.changing a.limit a.commands.now l.at room c.if-place-limit.true ∙ i.0)).1.0
-
-pub returns-then-place-limit-clause-ending_value : goal.returns-then-place-limit-clause-ending_value
-returns-then-place-limit-clause-ending_value c =
-    let l = c.loop-at in
-    let a = c.args in
-    let i = l.invariant in
-    let room : l.at + 3 < length a.commands.now = omega arith in
-    (run_answered _ _ _ (limited (view l.chip) l.acc l.place l.changing a.limit a.commands.now l.at room c.if-place-limit.true ∙ i.0)).1.1
-
-pub returns-in-Bad-clause-result_value : goal.returns-in-Bad-clause-result_value
-returns-in-Bad-clause-result_value c =
-    let l = c.loop-at in
-    let a = c.args in
-    let i = l.invariant in
-    let room : l.at + 3 < length a.commands.now = omega arith in
+    let room : 4 * l.place + 3 < length a.commands.now = omega arith in
     let below : l.place < a.limit = omega arith in
-    (run_answered _ _ _ (halted (view l.chip) l.acc l.place l.changing a.limit a.commands.now l.at room below (view_did c.command-did.result) c.command-did.ensures.result_value _ c.in-Bad.is ∙ i.0)).0
+    let four = read-four a.commands.now c.as_chunks.ensures.front l.place _ (omega arith) in
+    let is = c.command-did.ensures.result_value ∙ ap (one (view l.chip) l.acc) four in
+    let e = halted (view l.chip) l.acc l.place l.changing a.limit a.commands.now (4 * l.place) room below _ is c.in-Err.why c.in-Err.is ∙ l.invariant.ahead in
+    let (result, (count, ending)) = run_answered _ _ _ e in
+    record { result_value = result; count_value = count; ending_value = ending }
 
-pub returns-in-Bad-clause-count_value : goal.returns-in-Bad-clause-count_value
-returns-in-Bad-clause-count_value c =
-    let l = c.loop-at in
+pub loop-place-preserved : goal.loop-place-preserved
+loop-place-preserved c =
+    let l = c.loop-place in
     let a = c.args in
-    let i = l.invariant in
-    let room : l.at + 3 < length a.commands.now = omega arith in
-    let below : l.place < a.limit = omega arith in
-    (run_answered _ _ _ (halted (view l.chip) l.acc l.place l.changing a.limit a.commands.now l.at room below (view_did c.command-did.result) c.command-did.ensures.result_value _ c.in-Bad.is ∙ i.0)).1.0
-
-pub returns-in-Bad-clause-ending_value : goal.returns-in-Bad-clause-ending_value
-returns-in-Bad-clause-ending_value c =
-    let l = c.loop-at in
-    let a = c.args in
-    let i = l.invariant in
-    let room : l.at + 3 < length a.commands.now = omega arith in
-    let below : l.place < a.limit = omega arith in
-    (run_answered _ _ _ (halted (view l.chip) l.acc l.place l.changing a.limit a.commands.now l.at room below (view_did c.command-did.result) c.command-did.ensures.result_value _ c.in-Bad.is ∙ i.0)).1.1
-
-pub loop-at-preserved : goal.loop-at-preserved
-loop-at-preserved c =
-    let l = c.loop-at in
-    let a = c.args in
-    let i = l.invariant in
     let did = c.command-did in
-    let room : l.at + 3 < length a.commands.now = omega arith in
-    let below : l.place < a.limit = omega arith in (
-      advanced (view l.chip) l.acc l.place l.changing a.limit a.commands.now l.at room below (view_did did.result) did.ensures.result_value
-          did.ensures.changed_value c.step_if-changing.ensures c.in_default.is
-          ∙ i.0,
-      i.1,
-      omega arith,
-      omega arith,
-      omega arith,
-      i.5,
-      omega (arith, step_most did.result.changed c.step_if-changing.ensures),
-    )
+    let room : 4 * l.place + 3 < length a.commands.now = omega arith in
+    let below : l.place < a.limit = omega arith in
+    let four = read-four a.commands.now c.as_chunks.ensures.front l.place _ (omega arith) in
+    let is = did.ensures.result_value ∙ ap (one (view l.chip) l.acc) four in
+    let changed = rw four at did.ensures.changed_value in
+    let next : 4 * (l.place + 1) ≡ 4 * l.place + 4 = omega arith in
+    record {
+      ahead =
+          rw next
+          (advanced (view l.chip) l.acc l.place l.changing a.limit a.commands.now (4 * l.place) room below (view_did did.result) is
+          changed c.from-changing.ensures c.in_default-verdict.is
+          ∙ l.invariant.ahead);
+      below = omega arith;
+      few = omega (arith, added_most did.result.changed);
+    }
 
-pub returns-clause-result_value : goal.returns-clause-result_value
-returns-clause-result_value c =
-    let l = c.loop-at in
+pub returns : goal.returns
+returns c =
+    let l = c.loop-place in
     let a = c.args in
-    let i = l.invariant in
-    (run_answered _ _ _ (finished (view l.chip) l.acc l.place l.changing a.limit a.commands.now l.at (omega arith) ∙ i.0)).0
-
-pub returns-clause-count_value : goal.returns-clause-count_value
-returns-clause-count_value c =
-    let l = c.loop-at in
-    let a = c.args in
-    let i = l.invariant in
-    (run_answered _ _ _ (finished (view l.chip) l.acc l.place l.changing a.limit a.commands.now l.at (omega arith) ∙ i.0)).1.0
-
-pub returns-clause-ending_value : goal.returns-clause-ending_value
-returns-clause-ending_value c =
-    let l = c.loop-at in
-    let a = c.args in
-    let i = l.invariant in
-    (run_answered _ _ _ (finished (view l.chip) l.acc l.place l.changing a.limit a.commands.now l.at (omega arith) ∙ i.0)).1.1
+    let end : l.place ≡ length c.as_chunks.result.0.now = omega arith in
+    let e = finished (view l.chip) l.acc l.place l.changing a.limit a.commands.now (4 * l.place) (omega arith) ∙ l.invariant.ahead in
+    let (result, (count, ending)) = run_answered _ _ _ (rw end at e) in
+    record { result_value = result; count_value = count; ending_value = ending }

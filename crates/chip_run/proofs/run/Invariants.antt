@@ -1,19 +1,13 @@
-use Prim.Native.Nat.{◌+◌, ◌-◌, ◌%◌, ◌≤◌, ◌<◌}
-use mathlib.Core.Path.{◌≡◌, refl, ◌∙◌}
-use lib.ListN.{length}
+-- What is still to come from here is the whole run.
+use Rattle.std.proofs.Common.{◌≡◌, ◌*◌, ◌≤◌}
 use Rattle.chip.specs.View.{view}
-use Rattle.chip_run.specs.View.{view_did}
 use Rattle.chip_run.specs.Run.{ran}
-use Rattle.chip_run.proofs.RunNumbers.{run_answered}
-use Rattle.chip_run.proofs.Turns.{rest, step_most, finished, limited, advanced, halted, whole, uneven}
-use borrow.Author.Rules.{rules}
-use native.Mathlib.Omega.{arith}
+use Rattle.chip_run.proofs.Turns.{rest}
 use Rattle.chip_run.proofs.run.Given as goal
 
-abbrev pub invariant-loop-at : goal.invariant-loop-at
-invariant-loop-at l =
-    (rest (view l.chip) l.acc l.place l.changing l.limit l.commands l.at ≡ ran (view l.initial.chip) l.commands l.limit)
-    × (length l.commands % 4 ≡ 0) × (l.at % 4 ≡ 0) × (l.at ≤ length l.commands) × (l.place ≤ l.limit) × (l.size ≡ length l.commands) × (l.changing ≤ l.place)
-
-abbrev pub decreases-loop-at : goal.decreases-loop-at
-decreases-loop-at l = length l.commands - l.at
+abbrev pub invariant-loop-place : goal.invariant-loop-place
+invariant-loop-place l = record {
+  ahead : rest (view l.chip) l.acc l.place l.changing l.limit l.commands-2 (4 * l.place) ≡ ran (view l.initial.chip) l.commands-2 l.limit;
+  below : l.place ≤ l.limit;
+  few : l.changing ≤ l.place;
+}

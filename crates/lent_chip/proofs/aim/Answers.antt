@@ -5,4 +5,4 @@ use Rattle.std.proofs.Common.{arith}
 use Rattle.lent_chip.proofs.aim.Goals as goal
 
 pub returns : goal.returns
-returns c = then_reading c.args.reading (then_single POSITION 0 (then_single INDEX c.args.v (as_it_is c.requires) (omega arith)) (omega arith)) c.with_reading.ensures
+returns c = then_reading c.args.reading (then_single POSITION 0 (then_single INDEX c.args.v (as_it_is c.told-state) (omega arith)) (omega arith)) (omega (arith, c.with_flag.ensures))

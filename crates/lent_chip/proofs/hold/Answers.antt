@@ -17,7 +17,7 @@ returns-then-p-eq2-clause-value c = rw c.if-p-eq2.true c.put_colour.ensures.valu
 
 pub returns-then-p-eq1-clause-holds : goal.returns-then-p-eq1-clause-holds
 unfolding view shown_by laid loaded
-returns-then-p-eq1-clause-holds c = now_holds (then_single GREEN _ (as_it_is c.requires) (omega arith)) (rw c.if-p-eq1.true)
+returns-then-p-eq1-clause-holds c = now_holds (then_single GREEN _ (as_it_is c.told-state) (omega arith)) (rw c.if-p-eq1.true)
 
 pub returns-then-p-eq1-clause-value : goal.returns-then-p-eq1-clause-value
 unfolding view shown_by laid loaded
@@ -25,7 +25,7 @@ returns-then-p-eq1-clause-value c = rw c.if-p-eq1.true (sym (ap not (same_self _
 
 pub returns-clause-holds : goal.returns-clause-holds
 unfolding view shown_by laid loaded
-returns-clause-holds c = now_holds (then_single RED _ (as_it_is c.requires) (omega arith)) (simp (ne_eqb _ _ c.if-p-eq2.false, ne_eqb _ _ c.if-p-eq1.false))
+returns-clause-holds c = now_holds (then_single RED _ (as_it_is c.told-state) (omega arith)) (simp (ne_eqb _ _ c.if-p-eq2.false, ne_eqb _ _ c.if-p-eq1.false))
 
 pub returns-clause-value : goal.returns-clause-value
 unfolding view shown_by laid loaded

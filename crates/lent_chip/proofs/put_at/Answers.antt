@@ -21,12 +21,12 @@ returns c =
     let l = a.state.now in
     let at = c.place_from-at.ensures.0 in
     let stands = c.entry_at-e.ensures.standing_value in
-    let below : place_of g a.i < length l = omega (arith, at, c.place_from-at.ensures.1, c.requires.state_len) in
+    let below : place_of g a.i < length l = omega (arith, at, c.place_from-at.ensures.1, c.told-state) in
     let old : get_or l (place_of g a.i) 0 < 256 = search rules in
     then_told g a.i a.v (eqb (c.entry_at-e.result.standing / 128 % 2) 1) (get_or l c.place_from-at.result 0) c.write-new.result (omega arith)
     (rw (c.write-new.ensures, at)
-    (then_received l a.i a.v _ c.requires.state_len (omega arith) g old
-    (rw (c.entry_at-e.ensures.writable_value, c.requires.left_value) (open_bits g (locked g (named (view l))) a.i _ (byte-rows g a.i).0))))
+    (then_received l a.i a.v _ c.told-state (omega arith) g old
+    (rw (c.entry_at-e.ensures.writable_value, c.requires) (open_bits g (locked g (named (view l))) a.i _ (byte-rows g a.i).0))))
     c.told.ensures
     (rw at old) (omega arith)
     (rw (at, stands) (sym (get_reg g l a.i (omega arith))))

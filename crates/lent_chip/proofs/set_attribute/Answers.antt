@@ -7,9 +7,9 @@ use Rattle.lent_chip.proofs.Holding.{attribute_byte}
 use Rattle.lent_chip.proofs.Words.{then_set}
 use Rattle.lent_chip.proofs.set_attribute.Goals as goal
 
-pub put_at-word-requires-clause-left_value : goal.put_at-word-requires-clause-left_value
+pub put_at-word-requires : goal.put_at-word-requires
 unfolding group_at
-put_at-word-requires-clause-left_value c = rw (c.under_lock-left.ensures, c.locked.ensures)
+put_at-word-requires c = rw (c.under_lock-left.ensures, c.locked.ensures)
 
 pub returns : goal.returns
 unfolding group_at

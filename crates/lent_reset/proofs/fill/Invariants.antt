@@ -1,12 +1,10 @@
-use Prim.Native.Nat.{◌-◌, ◌≤◌}
-use mathlib.Core.Path.{◌≡◌}
-use borrow.Author.Rules.{rules}
-use native.Mathlib.Omega.{arith}
-use Rattle.lent_reset.proofs.Bytes.{Done, none_done, next_done, fresh_holds}
+-- The names of the groups before, and those of this group before an index, are done.
+use Prim.Native.Nat.{◌+◌, ◌*◌}
+use Rattle.lent_reset.proofs.Bytes.{Done}
 use Rattle.lent_reset.proofs.fill.Given as goal
 
-abbrev pub invariant-loop-name : goal.invariant-loop-name
-invariant-loop-name l = (l.name ≤ 2304) × Done l.first l.second l.name l.state
+abbrev pub invariant-loop-n : goal.invariant-loop-n
+invariant-loop-n l = Done l.first l.second (256 * l.n) l.state
 
-abbrev pub decreases-loop-name : goal.decreases-loop-name
-decreases-loop-name l = 2304 - l.name
+abbrev pub invariant-loop-i : goal.invariant-loop-i
+invariant-loop-i l = Done l.first l.second (256 * l.n + l.i) l.state

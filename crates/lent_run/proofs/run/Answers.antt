@@ -1,13 +1,14 @@
--- Another length is refused; on a state the commands are run.
-use borrow.Author.Tests.{eq-eqb, ne_eqb}
-use Rattle.lent_chip.proofs.Reached.{left-held, left-kept}
-use Rattle.lent_run.proofs.Numbers.{run_answered}
-use borrow.Author.Rules.{rules}
+-- The number and the place are those of the answer.
+use Rattle.std.specs.Prelude.{◌≡◌, Ok, Result}
+use Rattle.std.proofs.Common.{ap, ◌∙◌, rules, arith}
+use Rattle.chip_run.specs.declared.Tally.{Tally}
+use Rattle.lent_chip.specs.declared.access.StateError.{StateError}
+use Rattle.lent_run.specs.Run.{run_answer, of_lent_ran}
+use Rattle.lent_run.proofs.Numbers.{lent_run_number}
 use Rattle.lent_run.proofs.run.Goals as goal
 
 pub returns-clause-result_value : goal.returns-clause-result_value
 returns-clause-result_value c =
     let a = c.args in
-    let size = c.if-state-ne-STATE.false in
-    let ran = c.run_in.ensures in
-    (run_answered a.state.now a.commands.now a.limit (rw (eq-eqb _ _ size) ran.answer) (left-held size ran.holds)).1.1
+    let answer : ◌≡◌ {A = Result Tally StateError} (Ok c.run_in.result) (run_answer a.state.now a.commands.now a.limit) = search rules in
+    ap of_lent_ran answer ∙ lent_run_number a.state.now a.commands.now a.limit

@@ -1,45 +1,44 @@
 -- The loop's invariant: bytes that hold what is still to be run from. Each way out is a turn of that law.
-use Prim.Native.Nat.{◌+◌, ◌-◌, ◌<◌}
-use mathlib.Core.Path.{◌≡◌, refl}
-use lib.ListN.{length}
-use Rattle.chip_run.proofs.Turns.{finished, limited, whole, uneven}
+use Rattle.std.proofs.Common.{◌≡◌, ◌+◌, ◌*◌, ◌%◌, ◌<◌, length, arith}
+use Rattle.chip_run.proofs.Turns.{read-four, finished, limited, whole, uneven}
 use Rattle.chip_run.specs.declared.Ending.TheVariants.{Ended, AtLimit}
-use Rattle.lent_run.proofs.Turns.{Going, begun, out, again, stopped, unrun, turn_few}
-use borrow.Author.Rules.{rules}
-use native.Mathlib.Omega.{arith}
+use Rattle.lent_run.proofs.Turns.{begun, out, read_as, again, stopped, unrun}
 use Rattle.lent_run.proofs.run_in.Goals as goal
 
-pub returns-then-size-ne0 : goal.returns-then-size-ne0
-returns-then-size-ne0 c = unrun c.args.commands.now c.args.limit c.requires (uneven _ _ _ c.if-size-ne0.true)
+pub returns-in_default : goal.returns-in_default
+returns-in_default c =
+    let odd : length c.args.commands.now % 4 ≡ 0 → ⊥ = λ e. omega arith in
+    unrun c.args.commands.now c.args.limit c.told-state (uneven _ _ _ odd)
 
-pub loop-at-init : goal.loop-at-init
-loop-at-init c = (begun c.requires c.if-size-ne0.false (whole _ _ _ c.if-size-ne0.false), refl)
+pub loop-place-init : goal.loop-place-init
+loop-place-init c = begun c.told-state (whole _ _ _ (omega arith))
 
 pub returns-then-place-limit : goal.returns-then-place-limit
 returns-then-place-limit c =
-    let (g, _) = c.loop-at.invariant in
-    let room : c.loop-at.at + 3 < length c.args.commands.now = omega arith in
-    out AtLimit g (limited _ _ _ _ _ _ _ room c.if-place-limit.true)
+    let l = c.loop-place in
+    let room : 4 * l.place + 3 < length c.args.commands.now = omega arith in
+    out AtLimit l.invariant (limited _ _ _ _ _ _ _ room c.if-place-limit.true)
 
-pub returns-then-n-ne0 : goal.returns-then-n-ne0
-returns-then-n-ne0 c =
-    let l = c.loop-at in
-    let a = c.args in
-    let (g, _) = l.invariant in
-    let room : l.at + 3 < length a.commands.now = omega arith in
-    let below : l.place < a.limit = omega arith in
-    stopped g room below c.command-t.ensures c.if-n-ne0.true c.reason_of-why.ensures
+pub returns-in-Err : goal.returns-in-Err
+returns-in-Err c =
+    let l = c.loop-place in
+    let room : 4 * l.place + 3 < length c.args.commands.now = omega arith in
+    let below : l.place < c.args.limit = omega (arith, l.invariant.below) in
+    let four = read-four c.args.commands.now c.as_chunks.ensures.front l.place _ (omega arith) in
+    stopped l.invariant room below (read_as l.acc four c.command-turn.ensures) c.in-Err.is
 
-pub loop-at-preserved : goal.loop-at-preserved
-loop-at-preserved c =
-    let l = c.loop-at in
-    let a = c.args in
-    let (g, s) = l.invariant in
-    let room : l.at + 3 < length a.commands.now = omega arith in
-    let below : l.place < a.limit = omega arith in
-    (again g room below c.command-t.ensures c.if-n-ne0.false, s)
+pub loop-place-preserved : goal.loop-place-preserved
+loop-place-preserved c =
+    let l = c.loop-place in
+    let room : 4 * l.place + 3 < length c.args.commands.now = omega arith in
+    let below : l.place < c.args.limit = omega (arith, l.invariant.below) in
+    let four = read-four c.args.commands.now c.as_chunks.ensures.front l.place _ (omega arith) in
+    again l.invariant room below (read_as l.acc four c.command-turn.ensures) c.in_default-verdict.is c.from-changing.ensures (omega arith)
 
 pub returns : goal.returns
 returns c =
-    let (g, _) = c.loop-at.invariant in
-    out Ended g (finished _ _ _ _ _ c.args.commands.now c.loop-at.at (omega arith))
+    let l = c.loop-place in
+    let commands = c.args.commands.now in
+    let end : l.place ≡ length c.as_chunks.result.0.now = omega arith in
+    let e = out Ended l.invariant (finished _ _ _ _ _ commands (4 * l.place) (omega arith)) in
+    rw end at e

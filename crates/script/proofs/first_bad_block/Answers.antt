@@ -4,6 +4,7 @@ use mathlib.Core.Bool.{Bool}
 use mathlib.Core.Path.{◌≡◌, sym, ap, ◌∙◌}
 use Prim.Native.Nat.{ℕ, ◌+◌, ◌-◌, ◌*◌}
 use native.Mathlib.Nat.{add-sub_cancel_left}
+use native.Mathlib.Omega.{arith}
 use borrow.Author.Rules.{rules}
 use lib.Dec.{eqb}
 use lib.ListN.{take, drop}
@@ -21,16 +22,17 @@ tested f k e =
 pub loop-k-preserved : goal.loop-k-preserved
 loop-k-preserved c =
     let f = c.args.file.now in
-    c.loop-k.invariant ∙ first_more (legal_at f) c.loop-k.k (blocks f) (search rules) (tested f c.loop-k.k c.is_block.ensures ∙ c.if-is_block.true)
+    c.loop-k.invariant ∙ first_more (legal_at f) c.loop-k.k (blocks f) (search rules) (tested f c.loop-k.k c.is_block.ensures ∙ c.if-not-is_block.false)
 
 -- a block that breaks a rule
-pub returns-else-is_block : goal.returns-else-is_block
-returns-else-is_block c =
+pub returns-then-not-is_block : goal.returns-then-not-is_block
+returns-then-not-is_block c =
     let f = c.args.file.now in
-    sym (c.loop-k.invariant ∙ first_stop (legal_at f) c.loop-k.k (blocks f) (search rules) (tested f c.loop-k.k c.is_block.ensures ∙ c.if-is_block.false))
+    sym (c.loop-k.invariant ∙ first_stop (legal_at f) c.loop-k.k (blocks f) (search rules) (tested f c.loop-k.k c.is_block.ensures ∙ c.if-not-is_block.true))
 
 -- all of them are legal
 pub returns : goal.returns
 returns c =
     let f = c.args.file.now in
-    sym (c.loop-k.invariant ∙ first-none (legal_at f) c.loop-k.k (blocks f) c.loop-k-test.false)
+    let e : c.loop-k.k ≡ blocks f = omega arith in
+    sym (c.loop-k.invariant ∙ first-none (legal_at f) c.loop-k.k (blocks f) (omega arith) ∙ e)

@@ -6,6 +6,3 @@ use Rattle.script.proofs.first_bad_block.Given as goal
 
 abbrev pub invariant-loop-k : goal.invariant-loop-k
 invariant-loop-k l = first_bad_block l.file ≡ first_not (legal_at l.file) l.k (blocks l.file - l.k)
-
-abbrev pub decreases-loop-k : goal.decreases-loop-k
-decreases-loop-k l = l.count - l.k

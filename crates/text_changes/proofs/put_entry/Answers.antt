@@ -1,9 +1,14 @@
--- The word and the digits.
+-- The word, the number, the colours and the line feed, one behind the other.
 use native.Mathlib.Omega.{arith}
-use borrow.Author.Rules.{rules}
+use Rattle.lists.proofs.Put.{added_append}
+use Rattle.text.proofs.Adding.{then_in}
 use Rattle.text_changes.specs.Changes.{colour_line}
 use Rattle.text_changes.proofs.put_entry.Goals as goal
 
 pub returns : goal.returns
 unfolding colour_line
-returns c = rw (c.digit.ensures, c.digit-2.ensures, c.digit-3.ensures, c.digit-4.ensures, c.digit-5.ensures, c.digit-6.ensures, c.digit-7.ensures, c.digit-8.ensures, c.digit-9.ensures, c.digit-10.ensures, c.digit-11.ensures, c.digit-12.ensures, c.digit-13.ensures, c.digit-14.ensures) at (c.add.ensures.here (omega arith))
+returns c =
+    let word = c.add-word.ensures.here (omega arith) in
+    let number = added_append word (c.add_byte-number.ensures.here (omega arith)) (omega arith) in
+    let middle = added_append number c.put_bytes-middle.ensures (omega arith) in
+    then_in 1 (added_append middle c.put_bytes-end.ensures (omega arith)) c.add.ensures (omega arith)

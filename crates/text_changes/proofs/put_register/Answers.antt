@@ -1,5 +1,4 @@
 -- Nothing, or the line.
-use borrow.Author.Rules.{rules}
 use borrow.Author.Tests.{eq-eqb, ne_eqb}
 use Rattle.lists.proofs.Put.{added_none}
 use Rattle.text_changes.specs.Changes.{register_change}

@@ -1,18 +1,9 @@
-use Prim.Native.Nat.{ℕ, ◌-◌, ◌≤◌}
-use mathlib.Core.Path.{◌≡◌, refl, ◌∙◌}
-use native.Mathlib.Omega.{arith}
-use borrow.Author.Rules.{rules}
-use lib.ListN.{length}
+use Prim.Native.Nat.{ℕ}
 use Rattle.chip.specs.State.{named}
 use Rattle.chip.specs.View.{view}
-use Rattle.lists.specs.Put.{Added}
-use Rattle.text_registers.proofs.Growing.{added_start, room_next, added_next}
-use Rattle.text_changes.specs.Changes.{register_at, registers_to}
-use Rattle.text_changes.proofs.Lengths.{register_most}
+use Rattle.text_registers.proofs.Growing.{Grown}
+use Rattle.text_changes.specs.Changes.{register_at}
 use Rattle.text_changes.proofs.put_registers.Given as goal
 
 abbrev pub invariant-loop-k : goal.invariant-loop-k
-invariant-loop-k l = Added l.initial.out l.from (registers_to (named (view l.before)) (named (view l.after)) l.g l.k) l.out l.at × (length l.out ≡ length l.initial.out) × (l.k ≤ l.n)
-
-abbrev pub decreases-loop-k : goal.decreases-loop-k
-decreases-loop-k l = l.n - l.k
+invariant-loop-k l = Grown (λ (i : ℕ). register_at (named (view l.before)) (named (view l.after)) l.g i) l.initial.out l.from l.k l.out l.at

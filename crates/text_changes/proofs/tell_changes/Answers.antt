@@ -1,5 +1,4 @@
 -- Room for the longest, and none.
-use borrow.Author.Rules.{rules}
 use native.Mathlib.Omega.{arith}
 use Rattle.chip.specs.State.{named}
 use Rattle.chip.specs.View.{view}

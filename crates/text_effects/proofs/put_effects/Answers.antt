@@ -1,21 +1,21 @@
 -- The loop's invariant: the lines so far stand in the output (proofs/Going).
-use Prim.Native.Nat.{◌-◌}
-use borrow.Author.Rules.{rules}
-use native.Mathlib.Omega.{arith}
-use lib.ListN.{length}
-use Rattle.chip.specs.View.{view}
-use Rattle.text_effects.proofs.Going.{Going, begins, ends, four-more, room-words, room-behind, same-said, goes_on}
+use mathlib.Core.Path.{◌∙◌}
+use Rattle.text_effects.proofs.Going.{ends, goes_on}
 use Rattle.text_effects.proofs.put_effects.Goals as goal
 
 -- a line more
-pub loop-from-preserved : goal.loop-from-preserved
-loop-from-preserved c =
-    let t = c in
-    let s = t in
-    let a = s in
-    let said = rw c.command_of.ensures at c.put_words-end.ensures in
-    goes_on _ _ a.requires.0 a.requires.1 s.loop-from.invariant t.loop-from-test.true said c.command-did.ensures.result_value c.put_behind-at.ensures
+pub loop-four-preserved : goal.loop-four-preserved
+loop-four-preserved c =
+    let (going, four) = c.loop-four.invariant in
+    let (size, now, other) = c.in-Some.ensures.steps in
+    let said = rw c.command_of.ensures at c.put_words-end.ensures in (
+      goes_on _ _ c.requires.0 c.requires.1 going _ _ now.0 (now.1 ∙ four) said c.command-did.ensures.result_value c.put_behind-at.ensures,
+      size ∙ four,
+    )
 
 -- all of them
 pub returns : goal.returns
-returns c = let a = c in ends _ _ a.requires.0 a.requires.1 c.loop-from.invariant c.loop-from-test.false
+returns c =
+    let (going, four) = c.loop-four.invariant in
+    let (size, none, other) = c.in-None.ensures.steps in
+    ends _ _ c.requires.0 c.requires.1 going (rw four at none.0)

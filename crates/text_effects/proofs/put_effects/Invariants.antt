@@ -1,13 +1,9 @@
-use Prim.Native.Nat.{◌-◌}
-use borrow.Author.Rules.{rules}
-use native.Mathlib.Omega.{arith}
-use lib.ListN.{length}
+use mathlib.Core.Path.{◌≡◌}
+use Rattle.std.specs.Slice.Iter.{chunks_exact_rest, chunks_exact_size}
 use Rattle.chip.specs.View.{view}
-use Rattle.text_effects.proofs.Going.{Going, begins, ends, four-more, room-words, room-behind, same-said, goes_on}
+use Rattle.text_effects.proofs.Going.{Going}
 use Rattle.text_effects.proofs.put_effects.Given as goal
 
-abbrev pub invariant-loop-from : goal.invariant-loop-from
-invariant-loop-from l = Going l.bytes l.initial.out l.out (view l.chip) l.acc l.at l.from
-
-abbrev pub decreases-loop-from : goal.decreases-loop-from
-decreases-loop-from l = length l.bytes - l.from
+abbrev pub invariant-loop-four : goal.invariant-loop-four
+invariant-loop-four l =
+    Going l.bytes l.initial.out l.out (view l.chip) l.acc l.at (chunks_exact_rest l.four-iterator) × (chunks_exact_size l.four-iterator ≡ 4)

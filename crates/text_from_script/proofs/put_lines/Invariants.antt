@@ -1,14 +1,8 @@
 -- The loop's invariant: the lines of the first j steps stand in the output. The reader hands out every step of an accepted
 -- file, so the way out before the last is never taken.
-use Prim.Native.Nat.{◌-◌, ◌≤◌}
-use mathlib.Core.Path.{◌≡◌}
-use lib.ListN.{length}
 use Rattle.lists.specs.Put.{Added}
 use Rattle.text_from_script.specs.Show.{text_to}
 use Rattle.text_from_script.proofs.put_lines.Given as goal
 
 abbrev pub invariant-loop-j : goal.invariant-loop-j
-invariant-loop-j l = Added l.initial.out 0 (text_to l.file l.j) l.out l.at × (length l.out ≡ length l.initial.out) × (l.j ≤ l.m)
-
-abbrev pub decreases-loop-j : goal.decreases-loop-j
-decreases-loop-j l = l.m - l.j
+invariant-loop-j l = Added l.initial.out 0 (text_to l.file l.j) l.out l.at

@@ -1,5 +1,4 @@
 -- The words and the numbers, one behind the other.
-use borrow.Author.Rules.{rules}
 use native.Mathlib.Omega.{arith}
 use Rattle.text.proofs.Adding.{then_in}
 use Rattle.text_listing.proofs.add_counts.Goals as goal

@@ -1,6 +1,5 @@
 -- The two lines, one behind the other.
 use native.Mathlib.Omega.{arith}
-use borrow.Author.Rules.{rules}
 use Rattle.lists.proofs.Put.{added_append}
 use Rattle.text_listing.proofs.Listing.{counts_most, changing_most}
 use Rattle.text_listing.proofs.add_header.Goals as goal

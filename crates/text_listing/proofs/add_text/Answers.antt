@@ -1,5 +1,4 @@
 -- The header, and the lines behind it.
-use borrow.Author.Rules.{rules}
 use native.Mathlib.Omega.{arith}
 use Rattle.lists.proofs.Put.{added_append}
 use Rattle.text_listing.proofs.Adding.{lines_most}

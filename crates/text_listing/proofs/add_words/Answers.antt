@@ -1,6 +1,5 @@
 -- Room for the longest, and none.
 use native.Mathlib.Omega.{arith}
-use borrow.Author.Rules.{rules}
 use Rattle.text.proofs.Adding.{none_in, in_added}
 use Rattle.text_listing.specs.Line.{words}
 use Rattle.text_listing.proofs.Adding.{words_most}

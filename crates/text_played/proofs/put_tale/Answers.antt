@@ -1,5 +1,4 @@
 -- What differs, and behind it the last line.
-use borrow.Author.Rules.{rules}
 use native.Mathlib.Omega.{arith}
 use Rattle.chip.specs.State.{named}
 use Rattle.chip.specs.View.{view}

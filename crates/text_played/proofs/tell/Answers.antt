@@ -1,5 +1,4 @@
 -- What is said of what was played on a chip after a reset.
-use borrow.Author.Rules.{rules}
 use Rattle.text_played.specs.Told.{told, left}
 use Rattle.text_played.proofs.tell.Goals as goal
 

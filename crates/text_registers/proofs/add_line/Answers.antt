@@ -1,7 +1,6 @@
 -- None is listed, and there is no line; else the name, the cells and the line feed, one behind the other.
 use mathlib.Core.Path.{sym, ◌∙◌}
 use native.Mathlib.Omega.{arith}
-use borrow.Author.Rules.{rules}
 use Rattle.chip_registers.specs.Groups.{group_at}
 use Rattle.chip.specs.State.{named}
 use Rattle.chip.specs.View.{view}

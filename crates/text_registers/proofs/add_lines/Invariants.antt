@@ -1,18 +1,9 @@
-use Prim.Native.Nat.{ℕ, ◌*◌, ◌-◌, ◌≤◌}
-use mathlib.Core.Path.{◌≡◌, refl, ◌∙◌}
-use native.Mathlib.Omega.{arith}
-use borrow.Author.Rules.{rules}
-use lib.ListN.{length}
+use Prim.Native.Nat.{ℕ, ◌*◌}
 use Rattle.chip.specs.State.{named}
 use Rattle.chip.specs.View.{view}
-use Rattle.lists.specs.Put.{Added}
-use Rattle.text_registers.specs.Text.{line_at, lines_to}
-use Rattle.text_registers.proofs.Growing.{added_start, room_next, added_next}
-use Rattle.text_registers.proofs.Lengths.{line_at_most}
+use Rattle.text_registers.proofs.Growing.{Grown}
+use Rattle.text_registers.specs.Text.{line_at}
 use Rattle.text_registers.proofs.add_lines.Given as goal
 
 abbrev pub invariant-loop-k : goal.invariant-loop-k
-invariant-loop-k l = Added l.initial.out l.from (lines_to l.g (named (view l.chip)) l.k) l.out l.at × (length l.out ≡ length l.initial.out) × (l.k ≤ l.n)
-
-abbrev pub decreases-loop-k : goal.decreases-loop-k
-decreases-loop-k l = l.n - l.k
+invariant-loop-k l = Grown (λ (j : ℕ). line_at l.g (named (view l.chip)) (16 * j)) l.initial.out l.from l.k l.out l.at

@@ -1,6 +1,5 @@
 -- The lines, and behind them the line feed.
 use native.Mathlib.Omega.{arith}
-use borrow.Author.Rules.{rules}
 use Rattle.chip.specs.State.{named}
 use Rattle.chip.specs.View.{view}
 use Rattle.text.proofs.Adding.{then_in}

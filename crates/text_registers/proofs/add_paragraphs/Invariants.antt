@@ -1,17 +1,9 @@
-use Prim.Native.Nat.{ℕ, ◌-◌, ◌≤◌}
-use mathlib.Core.Path.{◌≡◌, refl}
-use native.Mathlib.Omega.{arith}
-use lib.ListN.{length}
+use Prim.Native.Nat.{ℕ}
 use Rattle.chip.specs.State.{named}
 use Rattle.chip.specs.View.{view}
-use Rattle.lists.specs.Put.{Added}
-use Rattle.text_registers.specs.Text.{paragraph, paragraphs_to}
-use Rattle.text_registers.proofs.Growing.{added_start, room_next, added_next}
-use Rattle.text_registers.proofs.Lengths.{paragraph_most}
+use Rattle.text_registers.proofs.Growing.{Grown}
+use Rattle.text_registers.specs.Text.{paragraph}
 use Rattle.text_registers.proofs.add_paragraphs.Given as goal
 
 abbrev pub invariant-loop-g : goal.invariant-loop-g
-invariant-loop-g l = Added l.initial.out l.from (paragraphs_to (named (view l.chip)) l.g) l.out l.at × (length l.out ≡ length l.initial.out) × (l.g ≤ 9)
-
-abbrev pub decreases-loop-g : goal.decreases-loop-g
-decreases-loop-g l = 9 - l.g
+invariant-loop-g l = Grown (λ (g : ℕ). paragraph g (named (view l.chip))) l.initial.out l.from l.g l.out l.at

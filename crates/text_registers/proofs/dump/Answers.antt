@@ -1,6 +1,5 @@
 -- Room for the longest, and none.
 use native.Mathlib.Omega.{arith}
-use borrow.Author.Rules.{rules}
 use Rattle.chip.specs.State.{named}
 use Rattle.chip.specs.View.{view}
 use Rattle.text.proofs.Adding.{none_in, in_added}

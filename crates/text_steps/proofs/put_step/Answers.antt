@@ -5,22 +5,13 @@ use Rattle.text_steps.specs.Written.{step_text}
 use Rattle.text_steps.proofs.Lengths.{name_most}
 use Rattle.text_steps.proofs.put_step.Goals as goal
 
-pub put_byte-requires : goal.put_byte-requires
-put_byte-requires c = let few = name_most c.in-Set.group c.in-Set.index in omega arith
-
-pub put_byte-byte-requires : goal.put_byte-byte-requires
-put_byte-byte-requires c = let few = name_most c.in-Field.group c.in-Field.index in omega arith
-
-pub put_byte-requires-in-Field : goal.put_byte-requires-in-Field
-put_byte-requires-in-Field c = let few = name_most c.in-Field.group c.in-Field.index in omega arith
-
 pub returns-in-Set : goal.returns-in-Set
 unfolding step_text
 returns-in-Set c =
     let few = name_most c.in-Set.group c.in-Set.index in
     let w = c.add-name.ensures.here (omega arith) in
     let n = c.put_name-byte.ensures in
-    let v = c.put_byte.ensures in
+    let v = (c.add_byte.ensures.here (omega arith)) in
     rw c.in-Set.is (added_append (added_append w n (omega arith)) v (omega arith))
 
 pub returns-in-Field : goal.returns-in-Field
@@ -29,8 +20,8 @@ returns-in-Field c =
     let few = name_most c.in-Field.group c.in-Field.index in
     let w = c.add-name-in-Field.ensures.here (omega arith) in
     let n = c.put_name-bits.ensures in
-    let m = c.put_byte-byte.ensures in
-    let v = c.put_byte-in-Field.ensures in
+    let m = (c.add_byte-byte.ensures.here (omega arith)) in
+    let v = (c.add_byte-in-Field.ensures.here (omega arith)) in
     rw c.in-Field.is (added_append
     (added_append (added_append w n (omega arith)) m (omega arith))
     v
@@ -40,10 +31,10 @@ pub returns-in-Colour : goal.returns-in-Colour
 unfolding step_text
 returns-in-Colour c =
     let w = c.add-e.ensures.here (omega arith) in
-    let e = c.put_byte-r.ensures in
-    let r = c.put_byte-g.ensures in
-    let g = c.put_byte-b.ensures in
-    let b = c.put_byte-in-Colour.ensures in
+    let e = (c.add_byte-r.ensures.here (omega arith)) in
+    let r = (c.add_byte-g.ensures.here (omega arith)) in
+    let g = (c.add_byte-b.ensures.here (omega arith)) in
+    let b = (c.add_byte-in-Colour.ensures.here (omega arith)) in
     rw c.in-Colour.is (added_append
     (added_append
     (added_append (added_append w e (omega arith)) r (omega arith))

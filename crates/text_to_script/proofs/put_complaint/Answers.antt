@@ -3,14 +3,18 @@ use Rattle.lists.proofs.Put.{added_none}
 use Rattle.text_to_script.specs.Complaint.{complaint}
 use Rattle.text_to_script.proofs.put_complaint.Goals as goal
 
-pub returns-in-Blocks : goal.returns-in-Blocks
+pub returns-in-Ok : goal.returns-in-Ok
 unfolding complaint
-returns-in-Blocks c = let a = c.args in rw c.in-Blocks.is (added_none a.out.now a.at)
+returns-in-Ok c = rw c.in-Ok.is (added_none c.args.out.now c.args.at)
 
-pub returns-in-Stopped : goal.returns-in-Stopped
+pub returns-in-Err-Stopped : goal.returns-in-Err-Stopped
 unfolding complaint
-returns-in-Stopped c = rw c.in-Stopped.is (rw c.verdict_number.ensures at c.put_stopped.ensures)
+returns-in-Err-Stopped c =
+    let error = rw c.in-Err-Stopped.is at c.in-Err-Stopped.field-0-is in
+    rw (c.in-Err-Stopped.is, error) c.put_stopped.ensures
 
-pub returns-in-Refused : goal.returns-in-Refused
+pub returns-in-Err-Refused : goal.returns-in-Err-Refused
 unfolding complaint
-returns-in-Refused c = rw c.in-Refused.is (rw c.number.ensures at c.put_refusal.ensures)
+returns-in-Err-Refused c =
+    let error = rw c.in-Err-Refused.is at c.in-Err-Refused.field-0-is in
+    rw (c.in-Err-Refused.is, error) c.put_refusal.ensures

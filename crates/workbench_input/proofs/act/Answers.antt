@@ -55,19 +55,19 @@ returns-in-Read-clause-store_after c = rw c.in-Read.is
 
 pub returns-in-Write-clause-result_value : goal.returns-in-Write-clause-result_value
 unfolding acted store_after
-returns-in-Write-clause-result_value c = rw (c.in-Write.is, c.save-n.ensures.value)
+returns-in-Write-clause-result_value c = rw (c.in-Write.is, c.answer_number.ensures, c.save.ensures.result_number)
 
 pub returns-in-Write-clause-store_after : goal.returns-in-Write-clause-store_after
 unfolding acted store_after
-returns-in-Write-clause-store_after c = rw c.in-Write.is c.save-n.ensures.store_after
+returns-in-Write-clause-store_after c = rw c.in-Write.is c.save.ensures.store_after
 
 pub returns-in-Block-clause-result_value : goal.returns-in-Block-clause-result_value
 unfolding acted store_after
-returns-in-Block-clause-result_value c = rw (c.in-Block.is, c.carry-n.ensures.value)
+returns-in-Block-clause-result_value c = rw (c.in-Block.is, c.answer_number-in-Block.ensures, c.carry.ensures.result_number)
 
 pub returns-in-Block-clause-store_after : goal.returns-in-Block-clause-store_after
 unfolding acted store_after
-returns-in-Block-clause-store_after c = rw c.in-Block.is c.carry-n.ensures.store_after
+returns-in-Block-clause-store_after c = rw c.in-Block.is c.carry.ensures.store_after
 
 -- `Dump`, `Help`, `Quit`, `Pass`, `Unknown`
 pub returns-in-Dump-clause-result_value : goal.returns-in-Dump-clause-result_value

@@ -1,7 +1,6 @@
 -- By the kind of answer.
 use borrow.Author.Rules.{rules}
 use native.Mathlib.Omega.{arith}
-use mathlib.Core.List.{append_assoc}
 use Rattle.lists.proofs.Put.{added_none}
 use Rattle.text.proofs.Adding.{then_in}
 use Rattle.workbench_replies.specs.Reply.{reply_text}
@@ -14,18 +13,23 @@ returns-in-Number c = rw c.in-Number.is (then_in 1 (c.add_decimal-end.ensures.he
 pub returns-in-Byte : goal.returns-in-Byte
 unfolding reply_text
 returns-in-Byte c =
-    rw (c.in-Byte.is, append_assoc)
-    (then_in 4 (c.add_decimal-end-in-Byte.ensures.here (omega arith)) (rw (c.digit-in-Byte.ensures, c.digit.ensures) at c.add-in-Byte.ensures) (omega arith))
+    let number = c.add_decimal-number.ensures.here (omega arith) in
+    rw c.in-Byte.is (then_in 1 (then_in 3 number c.add_byte-end.ensures (omega arith)) c.add-in-Byte.ensures (omega arith))
 
 pub returns-in-Told : goal.returns-in-Told
 unfolding reply_text
 returns-in-Told c =
-    rw (c.in-Told.is, append_assoc, append_assoc)
-    (then_in 7 (c.add_decimal-end-in-Told.ensures.here (omega arith)) (rw (c.digit-in-Told-4.ensures, c.digit-in-Told-3.ensures, c.digit-in-Told-2.ensures, c.digit-in-Told.ensures) at c.add-in-Told.ensures) (omega arith))
+    let number = c.add_decimal-number-in-Told.ensures.here (omega arith) in
+    let first = then_in 3 number c.add_byte-first.ensures (omega arith) in
+    rw c.in-Told.is (then_in 1 (then_in 3 first c.add_byte-end-in-Told.ensures (omega arith)) c.add-in-Told.ensures (omega arith))
 
 pub returns-in-Colour : goal.returns-in-Colour
 unfolding reply_text
-returns-in-Colour c = rw c.in-Colour.is (rw (c.digit-in-Colour-6.ensures, c.digit-in-Colour-5.ensures, c.digit-in-Colour-4.ensures, c.digit-in-Colour-3.ensures, c.digit-in-Colour-2.ensures, c.digit-in-Colour.ensures) at (c.add-in-Colour.ensures.here (omega arith)))
+returns-in-Colour c =
+    let number = c.add-number.ensures.here (omega arith) in
+    let red = then_in 3 number c.add_byte-r.ensures (omega arith) in
+    let green = then_in 3 red c.add_byte-g.ensures (omega arith) in
+    rw c.in-Colour.is (then_in 1 (then_in 3 green c.add_byte-end-in-Colour.ensures (omega arith)) c.add-in-Colour.ensures (omega arith))
 
 pub returns-in-Registers : goal.returns-in-Registers
 unfolding reply_text

@@ -1,14 +1,5 @@
-use Prim.Native.Nat.{◌+◌, ◌-◌, ◌≤◌, ◌<◌}
-use mathlib.Core.Path.{◌≡◌, refl}
-use lib.ListN.{length, get_or}
-use native.Mathlib.Omega.{arith}
-use borrow.Author.Rules.{rules}
 use Rattle.blit.specs.Working.{Part, taken_byte}
-use Rattle.blit.proofs.Parts.{part_none, part_up}
 use Rattle.blit.proofs.lines.blend_taken.Given as goal
 
 abbrev pub invariant-loop-c : goal.invariant-loop-c
-invariant-loop-c l = (l.c ≤ l.w) × Part l.d (taken_byte l.code l.pattern l.d l.f l.pat l.src l.initial.mem) 0 l.c l.initial.mem l.mem
-
-abbrev pub decreases-loop-c : goal.decreases-loop-c
-decreases-loop-c l = l.w - l.c
+invariant-loop-c g l = Part l.d (taken_byte l.code l.pattern l.d l.f l.pat l.src l.initial.mem) 0 l.c l.initial.mem l.mem

@@ -4,10 +4,10 @@ use Rattle.chip.specs.Palette.{loaded}
 use Rattle.chip.proofs.ViewLaws.{loading_shown}
 use Rattle.chip.proofs.Chip.load.Goals as goal
 
-pub returns-then-p-eq2 : goal.returns-then-p-eq2
+pub returns-then-l-eq2 : goal.returns-then-l-eq2
 unfolding loaded
-returns-then-p-eq2 c = rw (c.with_loading.ensures, c.put_colour.ensures, loading_shown _, c.move_on-next.ensures, c.hold.ensures, eq-eqb _ _ c.if-p-eq2.true)
+returns-then-l-eq2 c = rw (c.with_loading.ensures, c.put_colour.ensures, loading_shown _, c.move_on-next.ensures, c.hold.ensures, eq-eqb _ _ c.if-l-eq2.true)
 
 pub returns : goal.returns
 unfolding loaded
-returns c = rw (c.with_loading-2.ensures, loading_shown _, c.move_on-next.ensures, c.hold.ensures, ne_eqb _ _ c.if-p-eq2.false)
+returns c = rw (c.with_loading-2.ensures, loading_shown _, c.move_on-next.ensures, c.hold.ensures, ne_eqb _ _ c.if-l-eq2.false)

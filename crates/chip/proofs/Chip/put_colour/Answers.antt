@@ -5,4 +5,4 @@ use Rattle.chip.proofs.Chip.put_colour.Goals as goal
 
 pub returns : goal.returns
 unfolding coloured view
-returns c = rw (c.by_mode-b.ensures, c.by_mode-g.ensures, c.by_mode-r.ensures, c.is_eight_bit-eight.ensures)
+returns c = rw (c.by_mode.ensures, c.by_mode-2.ensures, c.by_mode-3.ensures, c.is_eight_bit-eight.ensures)

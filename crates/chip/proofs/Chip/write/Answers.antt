@@ -5,20 +5,16 @@ use Rattle.chip.proofs.Reached.{closed_write, reached_write}
 use Rattle.chip.proofs.DifferLaws.{write_answered, unmoved}
 use Rattle.chip.proofs.Chip.write.Goals as goal
 
-pub returns-then-not-is_open-clause-result_value : goal.returns-then-not-is_open-clause-result_value
-returns-then-not-is_open-clause-result_value c = (write_answered (view c.args.self) c.args.port c.args.v c.untold.ensures.0 (c.untold.ensures.1 ∙ sym (unmoved _ _ refl)) (closed_write _ _ c.is_open.ensures (ap not c.if-not-is_open.true) c.args.v)).0
+pub returns-then-not-is_open : goal.returns-then-not-is_open
+returns-then-not-is_open c =
+    let a = c.args in
+    let closed = closed_write _ _ c.is_open.ensures (ap not c.if-not-is_open.true) a.v in
+    let (result, (answer, changed)) = write_answered (view a.self) a.port a.v c.untold.ensures.0 (c.untold.ensures.1 ∙ sym (unmoved _ _ refl)) closed in
+    record { result_value = result; answer_value = answer; changed_value = changed }
 
-pub returns-then-not-is_open-clause-answer_value : goal.returns-then-not-is_open-clause-answer_value
-returns-then-not-is_open-clause-answer_value c = (write_answered (view c.args.self) c.args.port c.args.v c.untold.ensures.0 (c.untold.ensures.1 ∙ sym (unmoved _ _ refl)) (closed_write _ _ c.is_open.ensures (ap not c.if-not-is_open.true) c.args.v)).1.0
-
-pub returns-then-not-is_open-clause-changed_value : goal.returns-then-not-is_open-clause-changed_value
-returns-then-not-is_open-clause-changed_value c = (write_answered (view c.args.self) c.args.port c.args.v c.untold.ensures.0 (c.untold.ensures.1 ∙ sym (unmoved _ _ refl)) (closed_write _ _ c.is_open.ensures (ap not c.if-not-is_open.true) c.args.v)).1.1
-
-pub returns-clause-result_value : goal.returns-clause-result_value
-returns-clause-result_value c = (write_answered (view c.args.self) c.args.port c.args.v c.write_to.ensures.result_value c.write_to.ensures.changed_value (reached_write _ _ c.is_open.ensures (ap not c.if-not-is_open.false) c.picks_3dx.ensures c.leads_to.ensures c.args.v)).0
-
-pub returns-clause-answer_value : goal.returns-clause-answer_value
-returns-clause-answer_value c = (write_answered (view c.args.self) c.args.port c.args.v c.write_to.ensures.result_value c.write_to.ensures.changed_value (reached_write _ _ c.is_open.ensures (ap not c.if-not-is_open.false) c.picks_3dx.ensures c.leads_to.ensures c.args.v)).1.0
-
-pub returns-clause-changed_value : goal.returns-clause-changed_value
-returns-clause-changed_value c = (write_answered (view c.args.self) c.args.port c.args.v c.write_to.ensures.result_value c.write_to.ensures.changed_value (reached_write _ _ c.is_open.ensures (ap not c.if-not-is_open.false) c.picks_3dx.ensures c.leads_to.ensures c.args.v)).1.1
+pub returns : goal.returns
+returns c =
+    let a = c.args in
+    let led = reached_write _ _ c.is_open.ensures (ap not c.if-not-is_open.false) c.picks_3dx.ensures c.leads_to.ensures a.v in
+    let (result, (answer, changed)) = write_answered (view a.self) a.port a.v c.write_to.ensures.shown c.write_to.ensures.counted led in
+    record { result_value = result; answer_value = answer; changed_value = changed }

@@ -1,5 +1,5 @@
 -- The register's byte, in the state before and in the state that is left.
-use Rattle.std.proofs.Common.{sym, refl, arith}
+use Rattle.std.proofs.Common.{sym, arith}
 use Rattle.chip.specs.View.{view}
 use Rattle.chip.proofs.DifferLaws.{received_differs}
 use Rattle.chip.proofs.Chip.write_data.Goals as goal

@@ -1,8 +1,7 @@
 -- The three bytes.
-use Rattle.std.proofs.Common.{refl}
-use Rattle.chip.specs.Differ.{same_colour}
+use Rattle.std.proofs.Common.{◌∙◌}
+use Rattle.chip.proofs.DifferLaws.{colours-same}
 use Rattle.chip.proofs.palette.is_same.Goals as goal
 
 pub returns : goal.returns
-unfolding same_colour
-returns c = refl
+returns c = c.eq.ensures ∙ colours-same c.args.a c.args.b

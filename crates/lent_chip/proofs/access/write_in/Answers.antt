@@ -4,7 +4,7 @@ use Rattle.std.proofs.Common.{not, ap, rules}
 use Rattle.lent_chip.proofs.access.write_in.Goals as goal
 
 pub returns-then-not-is_open : goal.returns-then-not-is_open
-returns-then-not-is_open c = write_closed c.is_open.ensures c.requires (ap not c.if-not-is_open.true) _ _
+returns-then-not-is_open c = write_closed c.is_open.ensures c.told-state (ap not c.if-not-is_open.true) _ _
 
 pub returns : goal.returns
 returns c = write_reached c.is_open.ensures (ap not c.if-not-is_open.false) c.picks_3dx.ensures _ _ c.leads_to-t.ensures c.write_to.ensures

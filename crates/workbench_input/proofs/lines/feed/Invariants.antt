@@ -1,5 +1,5 @@
--- The loop's invariant: what is still to come from here is the whole of it.
-use Prim.Native.Nat.{ℕ, ◌-◌}
+-- The loop's invariant: what is still to come from here is the whole of it, and the place is not past the end.
+use Prim.Native.Nat.{ℕ, ◌≤◌, max}
 use mathlib.Core.List.{List}
 use mathlib.Core.Path.{◌≡◌}
 use lib.ListN.{length, drop}
@@ -16,6 +16,4 @@ abbrev pub invariant-loop-i : goal.invariant-loop-i
 invariant-loop-i l =
     (fed (here (view_bench l.bench) l.store l.line l.size l.out l.next) l.i (drop l.i l.bytes) ≡ fed (here (view_bench l.initial.bench) l.initial.store l.initial.line l.initial.size l.initial.out l.initial.next) l.from (drop l.from l.bytes))
     × (length l.store ≡ length l.initial.store) × (length l.line ≡ length l.initial.line) × (length l.out ≡ length l.initial.out)
-
-abbrev pub decreases-loop-i : goal.decreases-loop-i
-decreases-loop-i l = length l.bytes - l.i
+    × (l.i ≤ max l.from (length l.bytes))
