@@ -9,7 +9,7 @@ ghost use Rattle.blit_frame.specs.Frame.{accepted};
 ghost use Rattle.blit_frame.specs.Lines.{byte_at, low_of, line_low, pattern_low};
 ghost use Rattle.blit.specs.Transfer.{in_turn, line_done, lines_done};
 ghost use Rattle.blit.specs.Working.{Part, Apart, SourceStill, PatternStill, LiesIn, PatternIn, Room, source_low, lines_below};
-ghost use Rattle.blit.specs.Working.{byte_of, bytes_from, blended_byte, taken_byte, becomes_of};
+ghost use Rattle.blit.specs.Working.{line_byte, byte_of, bytes_from, blended_byte, taken_byte, becomes_of};
 
 use crate::line::Line;
 use blit_frame::{Transfer, least, line_low, pattern_line};
@@ -28,6 +28,35 @@ fn byte_at(left: bool, low: usize, w: usize, c: usize) -> usize
     ensures { (result ≡ byte_at left low w c) × (result < low + w) }
 {
     if left { low + (w - 1 - c) } else { low + c }
+}
+
+// A line byte by byte in its direction: right whatever overlaps. Const parameters for the same reason as those of `blend`, below.
+// A call of its own: inside `all_lines` the direction and the code's terms would be tested at each byte. The line's numbers are
+// parameters of their own, and no `Line`: that would have to lie in memory for the call.
+#[inline(never)]
+fn in_order<const SOURCE: bool, const PATTERN: bool>(
+    mem: &mut [u8],
+    code: u8,
+    left: bool,
+    d: usize,
+    s: usize,
+    p: usize,
+    w: usize,
+)
+    requires lies_in { (d + w ≤ length mem.old) × (s + w ≤ length mem.old) × (length mem.old < 2 ^ 62) }
+    requires pattern_begins { p < 2 ^ 62 }
+    requires pattern_in { (c : ℕ) → c < w → p + byte_at left d w c % 8 < length mem.old }
+    ensures { mem.new ≡ in_turn w (line_byte code SOURCE PATTERN left d s p w) mem.old }
+{
+    let source = SOURCE;
+    let pattern = PATTERN;
+    for c in 0..w {
+        let i = byte_at(left, d, w, c);
+        let j = byte_at(left, s, w, c);
+        let pb = fetch(mem, pattern, p + i % 8);
+        let sb = fetch(mem, source, j);
+        mem[i] = blit_raster::raster_byte(code, pb, sb, mem[i]);
+    }
 }
 
 // The n bytes of `from` at `start`, to `to` at `at`.
@@ -253,23 +282,27 @@ impl Line {
         !self.source() | (self.d + self.w <= self.s) | (self.s + self.w <= self.d)
     }
 
-    // Byte by byte in its direction: right whatever overlaps. A call of its own would have the line in memory, and narrow lines
-    // would be a seventh slower.
+    // Byte by byte. Inlined, as `in_order` is not: a call of its own would have the line in memory, and narrow lines would be a
+    // seventh slower.
     #[inline(always)]
     fn one_by_one(self, mem: &mut [u8])
         requires lies_in { LiesIn (length mem.old) self }
         requires pattern_in { PatternIn (length mem.old) self }
         ensures { mem.new ≡ in_turn self.w (byte_of self) mem.old }
     {
-        let source = self.source();
-        let pattern = self.pattern();
-        for c in 0..self.w {
-            let i = byte_at(self.left, self.d, self.w, c);
-            let j = byte_at(self.left, self.s, self.w, c);
-            let pb = fetch(mem, pattern, self.p + i % 8);
-            let sb = fetch(mem, source, j);
-            mem[i] = blit_raster::raster_byte(self.code, pb, sb, mem[i]);
+        if self.pattern() {
+            if self.source() {
+                in_order::<true, true>(mem, self.code, self.left, self.d, self.s, self.p, self.w);
+                return;
+            }
+            in_order::<false, true>(mem, self.code, self.left, self.d, self.s, self.p, self.w);
+            return;
         }
+        if self.source() {
+            in_order::<true, false>(mem, self.code, self.left, self.d, self.s, self.p, self.w);
+            return;
+        }
+        in_order::<false, false>(mem, self.code, self.left, self.d, self.s, self.p, self.w);
     }
 
     // A line of code CCh, by way of a buffer.

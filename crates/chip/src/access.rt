@@ -123,9 +123,9 @@ impl Chip {
         ensures result_value { view_wrote result ≡ told g i (view self) (with_named (view self) (received g (named (view self)) i v)) }
         ensures changed_value { result.changed ≡ differ (view self) (with_named (view self) (received g (named (view self)) i v)) }
     {
-        let before = self.get(g, i);
+        let before = self.byte(g, i);
         let next = self.put(g, i, v);
-        let after = next.get(g, i);
+        let after = next.byte(g, i);
         Wrote {
             answer: Ok(()),
             before,
@@ -135,10 +135,10 @@ impl Chip {
         }
     }
 
-    // A byte written where a port leads.
-    fn write_to(self, t: Target, v: u8) -> Wrote
-        ensures shown { view_wrote result ≡ write_to t (view self) v }
-        ensures counted { result.changed ≡ differ (view self) (write_to t (view self) v).chip }
+    // A byte written where a port leads, to a chip that is looked at where it stands: only what is done there copies it.
+    fn write_to(&self, t: Target, v: u8) -> Wrote
+        ensures shown { view_wrote result ≡ write_to t (view self.now) v }
+        ensures counted { result.changed ≡ differ (view self.now) (write_to t (view self.now) v).chip }
     {
         match t {
             Target::Index(g) => untold(Ok(()), self.with_index(g, v)),
@@ -147,8 +147,8 @@ impl Chip {
             Target::WriteIndex => untold(Ok(()), self.with_loading(self.loading.aim(v, false))),
             Target::Paldata => self.write_colour(v),
             Target::Attribute => self.write_attribute(v),
-            Target::NotPicked => untold(Ok(()), self),
-            Target::Status | Target::NotListed => untold(Err(AccessError::Unlisted), self),
+            Target::NotPicked => untold(Ok(()), *self),
+            Target::Status | Target::NotListed => untold(Err(AccessError::Unlisted), *self),
         }
     }
 
@@ -164,24 +164,24 @@ impl Chip {
         self.write_to(leads_to(self.picks_3dx(), true, port), v)
     }
 
-    // A byte read from where a port leads.
-    fn read_from(self, t: Target) -> Seen
-        ensures { view_seen result ≡ read_from t (view self) }
+    // A byte read from where a port leads, of a chip that is looked at in the same way.
+    fn read_from(&self, t: Target) -> Seen
+        ensures { view_seen result ≡ read_from t (view self.now) }
     {
         match t {
-            Target::Index(g) => gives(Ok(()), self.index(g), self),
-            Target::Data(g) => gives(Ok(()), self.get(g, self.index(g)), self),
-            Target::ReadIndex => gives(Ok(()), self.palstate(), self),
-            Target::WriteIndex => gives(Ok(()), self.loading.index, self),
+            Target::Index(g) => gives(Ok(()), self.index(g), *self),
+            Target::Data(g) => gives(Ok(()), self.byte(g, self.index(g)), *self),
+            Target::ReadIndex => gives(Ok(()), self.palstate(), *self),
+            Target::WriteIndex => gives(Ok(()), self.loading.index, *self),
             Target::Paldata => gives(
                 Ok(()),
                 self.paldata(),
                 self.with_loading(self.loading.move_on()),
             ),
-            Target::Attribute => gives(Ok(()), self.attribute_index(), self),
+            Target::Attribute => gives(Ok(()), self.attribute_index(), *self),
             Target::Status => gives(Ok(()), 0x00, self.with_turn(false)),
-            Target::NotPicked => gives(Ok(()), 0xFF, self),
-            Target::NotListed => gives(Err(AccessError::Unlisted), 0xFF, self),
+            Target::NotPicked => gives(Ok(()), 0xFF, *self),
+            Target::NotListed => gives(Err(AccessError::Unlisted), 0xFF, *self),
         }
     }
 

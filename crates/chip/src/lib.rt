@@ -1,6 +1,6 @@
 // The chip: its state by value, its reset, and each register by name. Document 01, "Ports" (the state) and
 // "Registers"; document 02, P1, for the attribute registers. The palette is in palette.rt, the attribute port in
-// attribute.rt, the port accesses in access.rt. Only `fill` with `new`, `get` and `put` touch the row, and `entry` and
+// attribute.rt, the port accesses in access.rt. Only `fill` with `new`, `byte` and `put` touch the row, and `stored` and
 // `put_colour` the palette; everything else asks for a register or a colour.
 #![tactic(auto)]
 
@@ -115,13 +115,11 @@ fn place_of(g: Group, i: u8) -> Option<usize>
     ensures place { result ≡ place_at (slot_of g i) }
     ensures within { IfSome result (λ k. k < row_size) }
 {
-    let first = first_of(g)?;
     let e = standing(g, i);
     if e < 128 {
-        None
-    } else {
-        Some(first + (e - 128) as usize)
+        return None;
     }
+    Some(first_of(g)? + (e - 128) as usize)
 }
 
 // The row after a reset: each name's byte at its place.
@@ -167,6 +165,13 @@ impl Chip {
     pub fn get(self, g: Group, i: u8) -> u8
         ensures { result ≡ register g (named (view self)) i }
     {
+        self.byte(g, i)
+    }
+
+    // The same of a chip that is looked at where it stands: who asks for one register after another copies no chip for each.
+    pub fn byte(&self, g: Group, i: u8) -> u8
+        ensures { result ≡ register g (named (view self.now)) i }
+    {
         if let Some(at) = place_of(g, i) {
             return self.row[at];
         }
@@ -181,7 +186,7 @@ impl Chip {
     fn locked(self, g: Group) -> bool
         ensures { result ≡ lockedOf g (named (view self)) }
     {
-        locked_by(g, self.get(Group::Cr, 0x11), self.picture)
+        locked_by(g, self.byte(Group::Cr, 0x11), self.picture)
     }
 
     // The state after a register has received a byte, by name.
@@ -205,20 +210,20 @@ impl Chip {
     pub fn is_open(self) -> bool
         ensures { result ≡ ports_open (named (view self)) }
     {
-        self.get(Group::Xr, 0x70) / 2 % 2 == 1
+        self.byte(Group::Xr, 0x70) / 2 % 2 == 1
     }
 
     // Whether MSR bit 0 picks the CR pair at 3D4h and 3D5h.
     pub fn picks_3dx(self) -> bool
         ensures { result ≡ picks3_dx (named (view self)) }
     {
-        self.get(Group::Msr, 0x00) % 2 == 1
+        self.byte(Group::Msr, 0x00) % 2 == 1
     }
 
     // Whether the palette is in eight-bit mode: XR80 bit 7.
     pub fn is_eight_bit(self) -> bool
         ensures { result ≡ eight_bit (named (view self)) }
     {
-        self.get(Group::Xr, 0x80) / 128 % 2 == 1
+        self.byte(Group::Xr, 0x80) / 128 % 2 == 1
     }
 }

@@ -89,7 +89,14 @@ impl Chip {
     pub fn entry(self, e: u8) -> Rgb
         ensures { result ≡ entry_of (named (view self)) e }
     {
-        self.palette[e as usize]
+        self.stored(e)
+    }
+
+    // The same of a chip that is looked at where it stands.
+    pub fn stored(&self, e: u8) -> Rgb
+        ensures { result ≡ entry_of (named (view self.now)) e }
+    {
+        self.palette[usize::from(e)]
     }
 
     // The state after a colour is stored at an entry, by the mode of this moment.
@@ -133,12 +140,14 @@ impl Chip {
         ensures changed_value { result.changed ≡ differ (view self) (write_to Paldata (view self) v).chip }
     {
         let e = self.loading.index;
+        let before = self.stored(e);
         let next = self.load(v);
+        let after = next.stored(e);
         Wrote {
             answer: Ok(()),
             before: 0xFF,
             after: 0xFF,
-            changed: self.entry(e) != next.entry(e),
+            changed: !is_same(before, after),
             chip: next,
         }
     }
@@ -155,7 +164,7 @@ impl Chip {
     pub fn paldata(self) -> u8
         ensures { result ≡ paldataOf (named (view self)) (view self).loading }
     {
-        let e = self.entry(self.loading.index);
+        let e = self.stored(self.loading.index);
         by_mode(self.is_eight_bit(), component(e, self.loading.position))
     }
 
@@ -164,7 +173,7 @@ impl Chip {
         ensures { result ≡ shownOf (named (view self)) pixel }
     {
         let eight = self.is_eight_bit();
-        let e = self.entry(pixel & self.get(Group::Palmask, 0x00));
+        let e = self.stored(pixel & self.byte(Group::Palmask, 0x00));
         Rgb {
             red: bright(eight, e.red),
             green: bright(eight, e.green),

@@ -4,10 +4,10 @@
 -- is not had by a reader that hands out nothing, nor by a check that accepts nothing. The first n steps of an accepted file are
 -- n, and their bytes are those at the file's places (proofs/Counted of crate `script_commands`); and for every list of 1 to 1,008
 -- steps that pass there is an accepted file whose steps are that list, which is the demand's own quantifier (proofs/Scripts):
---     steps-counted : .. checked f ≡ Accepted m → (n : ℕ) → n ≤ m → length (stepsTo f n) ≡ n
---     steps-stand : .. checked f ≡ Accepted m → (n : ℕ) → n ≤ m → sixes (stepsTo f n) ≡ placesTo f n
+--     steps-counted : .. checked f ≡ Ok m → (n : ℕ) → n ≤ m → length (stepsTo f n) ≡ n
+--     steps-stand : .. checked f ≡ Ok m → (n : ℕ) → n ≤ m → sixes (stepsTo f n) ≡ placesTo f n
 --     script-there : (ss : List Step) → 1 ≤ length ss → length ss ≤ 1008 → AllPass ss → ScriptOf ss
--- where a `ScriptOf ss` is a file with `checked file ≡ Accepted (length ss)` and `steps_to file (length ss) ≡ ss`.
+-- where a `ScriptOf ss` is a file with `checked file ≡ Ok (length ss)` and `steps_to file (length ss) ≡ ss`.
 -- On lent bytes it is said after each step in specs/Demand3 of crate `lent_play`.
 use Rattle.std.specs.Prelude.{ℕ, ◌≤◌, ◌≡◌, true, List, Ok}
 use Rattle.lists.specs.Bits.{is_set}

@@ -91,10 +91,10 @@ fn judge(a: Result<(), AccessError>) -> Result<(), Reason>
     Ok(a?)
 }
 
-// A write to a port as a command; the accumulator stays.
-fn after_write(acc: u8, w: Wrote) -> Did
-    ensures shown { view_did result ≡ after_write acc (view_wrote w) }
-    ensures counted { result.changed ≡ w.changed }
+// A write to a port as a command, looked at where it stands; the accumulator stays.
+fn after_write(acc: u8, w: &Wrote) -> Did
+    ensures shown { view_did result ≡ after_write acc (view_wrote w.now) }
+    ensures counted { result.changed ≡ w.now.changed }
 {
     Did {
         verdict: judge(w.answer),
@@ -104,13 +104,13 @@ fn after_write(acc: u8, w: Wrote) -> Did
     }
 }
 
-// One command of a known form.
-fn carry_out(chip: Chip, acc: u8, c: Command) -> Did
-    ensures shown { view_did result ≡ done (view chip) acc c }
-    ensures counted { result.changed ≡ differ (view chip) (done (view chip) acc c).chip }
+// One command of a known form, on a chip that is looked at where it stands.
+fn carry_out(chip: &Chip, acc: u8, c: Command) -> Did
+    ensures shown { view_did result ≡ done (view chip.now) acc c }
+    ensures counted { result.changed ≡ differ (view chip.now) (done (view chip.now) acc c).chip }
 {
     match c {
-        Command::Out(port, v) => after_write(acc, chip.write(port, v)),
+        Command::Out(port, v) => after_write(acc, &chip.write(port, v)),
         Command::In(port) => {
             let s = chip.read(port);
             Did {
@@ -124,9 +124,9 @@ fn carry_out(chip: Chip, acc: u8, c: Command) -> Did
             verdict: Ok(()),
             acc: (acc & keep) | set,
             changed: false,
-            chip,
+            chip: *chip,
         },
-        Command::OutAcc(port) => after_write(acc, chip.write(port, acc)),
+        Command::OutAcc(port) => after_write(acc, &chip.write(port, acc)),
     }
 }
 
@@ -144,7 +144,7 @@ pub fn command(chip: Chip, acc: u8, a: u8, b: u8, c: u8, d: u8) -> Did
             chip,
         };
     };
-    carry_out(chip, acc, x)
+    carry_out(&chip, acc, x)
 }
 
 // The commands of a list, four bytes each, up to a limit.

@@ -113,8 +113,10 @@ fn write_to(state: &mut [u8; STATE], t: Target, v: u8) -> u64
     }
 }
 
-// A port write on a state, which answers by a word.
-pub fn write_in(state: &mut [u8; STATE], port: u16, v: u8) -> u64
+// A port write on a state, which answers by a word. It is a call of its own, with the port last: `write_word` then hands the port
+// on in the processor's register that it came in.
+#[inline(never)]
+fn write_port(state: &mut [u8; STATE], v: u8, port: u16) -> u64
     ensures { WroteIn state.old (port_written (view state.old) port v) state.new result }
 {
     if !is_open(state) {
@@ -122,6 +124,13 @@ pub fn write_in(state: &mut [u8; STATE], port: u16, v: u8) -> u64
     }
     let t = leads_to(picks_3dx(state), true, port);
     write_to(state, t, v)
+}
+
+// The same, for crates that have a state as an array.
+pub fn write_in(state: &mut [u8; STATE], port: u16, v: u8) -> u64
+    ensures { WroteIn state.old (port_written (view state.old) port v) state.new result }
+{
+    write_port(state, v, port)
 }
 
 // A byte that an access shows, as a word.
@@ -169,7 +178,9 @@ pub fn read_in(state: &mut [u8; STATE], port: u16) -> u16
     read_from(state, t)
 }
 
-// A port write on bytes of any length.
+// A port write on bytes of any length. It is a call of its own too: as a part of the C function, which cuts the word, it would
+// keep the access from being the last thing done there.
+#[inline(never)]
 pub fn write_word(state: &mut [u8], port: u16, v: u8) -> u64
     ensures packed { Packed result (write_table state.old port v) }
     ensures left { Left state.old (port_written (view state.old) port v).chip (spare state.old) state.new }

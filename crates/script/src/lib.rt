@@ -12,7 +12,7 @@ ghost use Rattle.script.specs.File.{first_bad_block, step_count, step_place, ste
 ghost use Rattle.script.specs.Reader.{next_of, turned};
 ghost use Rattle.script.specs.Numbers.{of_refusal, of_checked, of_next, next_table, steps_table, checked_table};
 
-use lists::is_whole;
+use lists::{is_whole, wide};
 use script_steps::{Fault, Step, read_at};
 
 // How steps stand in a list of bytes: one after another, or in the blocks of a file.
@@ -162,7 +162,7 @@ pub fn step_count(file: &[u8]) -> usize
         return 0;
     }
     let last = count - 1;
-    84 * last + usize::from(file[512 * last + 2])
+    84 * last + wide(file[512 * last + 2])
 }
 
 // The bytes ahead of step j that are no steps.

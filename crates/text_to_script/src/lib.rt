@@ -31,10 +31,11 @@ pub enum LineError {
     Many,
 }
 
-// Why a text is not composed: the line that is not fine, counted from 0, or what the writer refuses.
+// Why a text is not composed: the line that is not fine, counted from 0, or what the writer refuses. A line's whole verdict
+// stands with it, so that each verdict has its complaint; `compose` gives one that is not fine (`stopped-why`).
 #[derive(Clone, Copy)]
 pub enum ComposeError {
-    Stopped(LineError, usize),
+    Stopped(Result<(), LineError>, usize),
     Refused(Refusal),
 }
 
@@ -149,7 +150,7 @@ fn gather(text: &[u8], steps: &mut [u8; 6054]) -> Result<usize, ComposeError>
         let end = line_end(text, from);
         let line = read_line(&text[from..end]);
         if let Err(why) = judge(line, n) {
-            return Err(ComposeError::Stopped(why, k));
+            return Err(ComposeError::Stopped(Err(why), k));
         }
         n = keep(steps, n, line);
         k += 1;
@@ -185,23 +186,23 @@ fn line_number(k: usize) -> usize
 }
 
 // What is wrong with a line. Each of these asks for the room that it takes, as `stopped_text` and `refusal_text` are long.
-fn put_wrong(out: &mut [u8], at: usize, why: LineError) -> usize
+fn put_wrong(out: &mut [u8], at: usize, number: u8) -> usize
     requires { at + 91 ≤ length out.old }
-    ensures { Added out.old at (wrong (line_error_number why)) out.new result }
+    ensures { Added out.old at (wrong number) out.new result }
 {
-    match why {
-        LineError::Form => add(out, at, b"not a step\n"),
-        _ => add_reason(out, at, why.number()),
+    if number == 0 {
+        return add(out, at, b"not a step\n");
     }
+    add_reason(out, at, number)
 }
 
 // A line that is not fine.
-fn put_stopped(out: &mut [u8], at: usize, why: LineError, k: usize) -> usize
+fn put_stopped(out: &mut [u8], at: usize, v: Result<(), LineError>, k: usize) -> usize
     requires { at + 128 ≤ length out.old }
-    ensures { Added out.old at (stopped_text (line_error_number why) k) out.new result }
+    ensures { Added out.old at (stopped_text (verdict_number v) k) out.new result }
 {
     let what = add_place(out, at, b"compose: line ", line_number(k));
-    put_wrong(out, what, why)
+    put_wrong(out, what, verdict_number(v))
 }
 
 // What the writer refuses.
@@ -220,7 +221,7 @@ fn put_complaint(out: &mut [u8], at: usize, c: Result<usize, ComposeError>) -> u
 {
     match c {
         Ok(_) => at,
-        Err(ComposeError::Stopped(why, k)) => put_stopped(out, at, why, k),
+        Err(ComposeError::Stopped(v, k)) => put_stopped(out, at, v, k),
         Err(ComposeError::Refused(why)) => put_refusal(out, at, why),
     }
 }

@@ -18,15 +18,15 @@ loop-j-init g c =
     record { counted = rw c.start-list.ensures.none; few = omega arith; kept = c.start-list.ensures.kept }
 
 pub returns-in_err-step : goal.returns-in_err-step
-returns-in_err-step g c = absurd (never_refused _ _ c.requires.1 _ (sym c.nth.ensures.0 ∙ c.in_err-step.was))
+returns-in_err-step g c = absurd (never_refused _ _ c.requires.1 _ (sym c.nth-next.ensures.0 ∙ c.in_err-step.was))
 
 -- the end
 pub returns-in_default : goal.returns-in_default
 returns-in_default g c =
     let (m, acc) = c.requires in
     let f = c.args.file.now in
-    let past = past_last f m acc c.loop-j.j (sym c.nth.ensures.0 ∙ c.in_ok-step.was ∙ ap Ok c.in_default.is) in
-    ap Ok (c.loop-j.invariant.counted ∙ ap (λ ss. length (g.L.Listing.list ss)) (sym (steps_past f m acc c.loop-j.j c.args.n past (omega arith))))
+    let past = past_last f m acc c.loop-j.j (sym c.nth-next.ensures.0 ∙ c.in_ok-step.was ∙ ap Ok c.in_default.is) in
+    (rw (c.in_ok-step.was ∙ ap Ok c.in_default.is) at c.without_step.ensures) ∙ ap Ok (c.loop-j.invariant.counted ∙ ap (λ ss. length (g.L.Listing.list ss)) (sym (steps_past f m acc c.loop-j.j c.args.n past (omega arith))))
 
 pub overflow_add-k : goal.overflow_add-k
 overflow_add-k g c =
@@ -35,7 +35,7 @@ overflow_add-k g c =
     omega (
       arith,
       known_most c.knows-known.result c.in-Some.step,
-      found_before f c.loop-j.j _ (sym c.nth.ensures.0 ∙ c.in_ok-step.was ∙ ap Ok c.in-Some.is),
+      found_before f c.loop-j.j _ (sym c.nth-next.ensures.0 ∙ c.in_ok-step.was ∙ ap Ok c.in-Some.is),
       (answer_says f acc).count,
       (accepted_few f m acc).1,
     )
@@ -45,7 +45,7 @@ pub loop-j-preserved : goal.loop-j-preserved
 loop-j-preserved g c =
     let f = c.args.file.now in
     let i = c.loop-j.invariant in
-    let s : next_of f c.loop-j.j ≡ Ok (Some c.in-Some.step) = sym c.nth.ensures.0 ∙ c.in_ok-step.was ∙ ap Ok c.in-Some.is in
+    let s : next_of f c.loop-j.j ≡ Ok (Some c.in-Some.step) = sym c.nth-next.ensures.0 ∙ c.in_ok-step.was ∙ ap Ok c.in-Some.is in
     let more = c.knows-known.ensures.more _ i.kept in
     record {
       counted = rw (steps_next _ _ s, more, length-append) (omega arith);

@@ -16,11 +16,11 @@ loop-j-init g c =
     record { put = rw c.start-list.ensures.none (added_none _ _); room = omega arith; size = refl; kept = c.start-list.ensures.kept }
 
 pub returns-in_err-step : goal.returns-in_err-step
-returns-in_err-step g c = absurd (never_refused _ _ c.requires.accepted _ (sym c.nth.ensures.0 ∙ c.in_err-step.was))
+returns-in_err-step g c = absurd (never_refused _ _ c.requires.accepted _ (sym c.nth-next.ensures.0 ∙ c.in_err-step.was))
 
 pub returns-in_default : goal.returns-in_default
 returns-in_default g c =
-    let past = past_last _ _ c.requires.accepted _ (sym c.nth.ensures.0 ∙ c.in_ok-step.was ∙ ap Ok c.in_default.is) in
+    let past = past_last _ _ c.requires.accepted _ (sym c.nth-next.ensures.0 ∙ c.in_ok-step.was ∙ ap Ok c.in_default.is) in
     absurd (omega (arith, past))
 
 -- a step's commands written, and the step kept in mind
@@ -28,7 +28,7 @@ pub loop-j-preserved : goal.loop-j-preserved
 loop-j-preserved g c =
     let a = c.args in
     let i = c.loop-j.invariant in
-    let s : next_of a.file.now c.loop-j.j ≡ Ok (Some c.in-Some.step) = sym c.nth.ensures.0 ∙ c.in_ok-step.was ∙ ap Ok c.in-Some.is in
+    let s : next_of a.file.now c.loop-j.j ≡ Ok (Some c.in-Some.step) = sym c.nth-next.ensures.0 ∙ c.in_ok-step.was ∙ ap Ok c.in-Some.is in
     let more = c.knows-known.ensures.more _ i.kept in
     let (put, room, size) = added_step a.file.now a.out.now c.loop-j.j g.L.Listing.list _ s more i.put c.add_step-at.ensures i.room i.size (omega arith) in
     record { put = put; room = room; size = size; kept = rw (steps_next _ _ s) (c.knows-known.ensures.kept _ i.kept) }

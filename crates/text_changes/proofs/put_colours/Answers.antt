@@ -14,5 +14,5 @@ put_colour-at-requires c = room_next 24 (λ e. colour_most _ _ _) c.loop-k.invar
 -- a line more, or none
 pub loop-k-preserved : goal.loop-k-preserved
 loop-k-preserved c =
-    let one = rw (c.entry-old.ensures, c.entry-new.ensures) at c.put_colour-at.ensures in
+    let one = rw (c.stored-old.ensures, c.stored-new.ensures) at c.put_colour-at.ensures in
     added_next 24 (λ e. colour_most _ _ _) c.loop-k.invariant (omega arith) one

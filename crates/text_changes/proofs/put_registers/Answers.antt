@@ -14,5 +14,5 @@ put_register-at-requires c = room_next 14 (λ i. register_most _ _ _ _) c.loop-k
 -- a line more, or none
 pub loop-k-preserved : goal.loop-k-preserved
 loop-k-preserved c =
-    let one = rw (c.get-old.ensures, c.get-new.ensures, c.group_at-group.ensures) at c.put_register-at.ensures in
+    let one = rw (c.byte-old.ensures, c.byte-new.ensures, c.group_at-group.ensures) at c.put_register-at.ensures in
     added_next 14 (λ i. register_most _ _ _ _) c.loop-k.invariant (omega arith) one

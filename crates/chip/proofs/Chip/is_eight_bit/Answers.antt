@@ -4,4 +4,4 @@ use Rattle.chip.proofs.Chip.is_eight_bit.Goals as goal
 
 pub returns : goal.returns
 unfolding eight_bit
-returns c = rw c.get.ensures
+returns c = rw c.byte.ensures

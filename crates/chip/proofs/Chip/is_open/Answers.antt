@@ -4,4 +4,4 @@ use Rattle.chip.proofs.Chip.is_open.Goals as goal
 
 pub returns : goal.returns
 unfolding ports_open
-returns c = rw c.get.ensures
+returns c = rw c.byte.ensures

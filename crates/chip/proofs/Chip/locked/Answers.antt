@@ -5,4 +5,4 @@ use Rattle.chip.proofs.Chip.locked.Goals as goal
 
 pub returns : goal.returns
 unfolding locked view
-returns c = rw (c.locked_by.ensures, c.get.ensures)
+returns c = rw (c.locked_by.ensures, c.byte.ensures)

@@ -4,4 +4,4 @@ use Rattle.chip.proofs.Chip.paldata.Goals as goal
 
 pub returns : goal.returns
 unfolding view
-returns c = rw (c.by_mode.ensures, c.component.ensures, c.entry-e.ensures, c.is_eight_bit.ensures)
+returns c = rw (c.by_mode.ensures, c.component.ensures, c.stored-e.ensures, c.is_eight_bit.ensures)

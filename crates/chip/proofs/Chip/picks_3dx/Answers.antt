@@ -5,4 +5,4 @@ use Rattle.chip.proofs.Chip.picks_3dx.Goals as goal
 
 pub returns : goal.returns
 unfolding picks3_dx
-returns c = rw (c.get.ensures, div-one)
+returns c = rw (c.byte.ensures, div-one)

@@ -4,4 +4,4 @@ use Rattle.chip.proofs.Chip.shown.Goals as goal
 
 pub returns : goal.returns
 unfolding shown
-returns c = rw (c.bright.ensures, c.bright-2.ensures, c.bright-3.ensures, c.entry-e.ensures, c.get.ensures, c.is_eight_bit-eight.ensures)
+returns c = rw (c.bright.ensures, c.bright-2.ensures, c.bright-3.ensures, c.stored-e.ensures, c.byte.ensures, c.is_eight_bit-eight.ensures)

@@ -7,4 +7,4 @@ use Rattle.chip.proofs.Chip.write_data.Goals as goal
 pub returns-clause-changed_value : goal.returns-clause-changed_value
 returns-clause-changed_value c =
     let a = c.args in
-    rw (c.get-before.ensures, c.get-after.ensures, c.put-next.ensures) (sym (received_differs a.g (view a.self) a.i a.v (omega arith)))
+    rw (c.byte-before.ensures, c.byte-after.ensures, c.put-next.ensures) (sym (received_differs a.g (view a.self) a.i a.v (omega arith)))

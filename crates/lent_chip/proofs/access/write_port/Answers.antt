@@ -1,7 +1,7 @@
 -- Closed ports, and where the port leads.
 use Rattle.lent_chip.proofs.Reached.{write_closed, write_reached}
 use Rattle.std.proofs.Common.{not, ap, rules}
-use Rattle.lent_chip.proofs.access.write_in.Goals as goal
+use Rattle.lent_chip.proofs.access.write_port.Goals as goal
 
 pub returns-then-not-is_open : goal.returns-then-not-is_open
 returns-then-not-is_open c = write_closed c.is_open.ensures c.told-state (ap not c.if-not-is_open.true) _ _

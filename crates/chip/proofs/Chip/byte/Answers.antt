@@ -1,7 +1,7 @@
 -- Where it stands in the row, or in a field of its own.
 use Rattle.std.proofs.Common.{arith}
 use Rattle.chip.proofs.Places.{read-there, read_nowhere, indexed-else, read-msr, read-palmask}
-use Rattle.chip.proofs.Chip.get.Goals as goal
+use Rattle.chip.proofs.Chip.byte.Goals as goal
 
 pub returns-in-Some : goal.returns-in-Some
 returns-in-Some c = read-there _ _ _ (omega arith) c.place_of.ensures.place c.in-Some.is
