@@ -69,26 +69,21 @@ impl Data {
 }
 
 // Four bytes read as a command; none of another form. This and `to_bytes` are no TryFrom and From: these two public functions
-// stand, and an impl beside them would say the same twice. The kinds are asked for one after the other: a match would be a jump
-// through a table, which cannot be foreseen, at each command of a run, and the run would be slower by a half.
+// stand, and an impl beside them would say the same twice. The last byte is asked for behind the first kind: the compiler makes of
+// a match on all four kinds at once a jump through a table, which cannot be foreseen, at each command of a run.
 #[tactic(auto, using(std::proofs::lemmas::Bool::Decides::nat_tests), unfolding(crate::specs::Command::command_of))]
 pub fn command_of(a: u8, b: u8, c: u8, d: u8) -> Option<Command>
     ensures { result ≡ command_of a b c d }
 {
     let port = u16::from_le_bytes([b, c]);
-    if a == 1 {
-        return Some(Command::Out(port, d));
+    match a {
+        1 => Some(Command::Out(port, d)),
+        _ if d != 0 => None,
+        2 => Some(Command::In(port)),
+        3 => Some(Command::Merge(b, c)),
+        4 => Some(Command::OutAcc(port)),
+        _ => None,
     }
-    if (a == 2) & (d == 0) {
-        return Some(Command::In(port));
-    }
-    if (a == 3) & (d == 0) {
-        return Some(Command::Merge(b, c));
-    }
-    if (a == 4) & (d == 0) {
-        return Some(Command::OutAcc(port));
-    }
-    None
 }
 
 // A command of this kind as four bytes, with its port low byte first.
